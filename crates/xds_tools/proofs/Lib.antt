@@ -1,4 +1,5 @@
 mod GivingUp
+mod Showing
 mod Tellings
 mod Watchings
 pub mod LineReading

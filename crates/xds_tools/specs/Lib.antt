@@ -1,4 +1,5 @@
 pub mod Asked
+pub mod Bearing
 pub mod Ends
 pub mod Messages
 pub mod WriteLines

@@ -1,6 +1,7 @@
 // `xds status`, `xds get`, `xds put` and `xds delete`: one request each to a server's operator's port, and what is shown of the answer.
-ghost use Rattle.std.specs.Prelude.{◌≡◌, ◌≤◌, IfErr};
-ghost use Rattle.xds_tools.specs.Asked.{shown_of, text_shown};
+ghost use Rattle.std.specs.Prelude.{◌≡◌, ◌≤◌, codes, IfErr};
+ghost use Rattle.xds_frames.specs.Devices.{seen};
+ghost use Rattle.xds_tools.specs.Asked.{IsRequest, Shows, ShowsBy, TellsWhy, change_seconds, look_seconds, shown_of, text_shown};
 
 use crate::bearing::{NoBearer, bearer_in};
 use crate::serve_telling::{
@@ -12,11 +13,11 @@ use std::io::{ErrorKind, Read, Write};
 use std::net::SocketAddrV4;
 use std::rt::Files;
 use std::time::Duration;
-use xds_frames::{Counted, write_whole};
+use xds_frames::Counted;
 use xds_machine::machine::Machine;
 use xds_machine::port_client::{Request, Unanswered, answered, whole_answer};
 use xds_port::{Answer, changes_target, delete_lines, resources_target};
-use xds_program::run::REFUSED;
+use xds_program::run::{REFUSED, print};
 use xds_program::{DeleteTask, GetTask, PutTask, StatusTask};
 use xds_resource::Refusal;
 use xds_stats::excerpt;
@@ -117,8 +118,14 @@ where
         addr: task.addr,
         token: &task.token,
     };
-    let request = looking("/status.txt");
-    ask(rt, port, request, Asked::Text, output, errors)
+    ask(rt, port, status_request(), Asked::Text, output, errors)
+}
+
+// A request for how streams stand.
+fn status_request() -> Request<'static>
+    ensures { IsRequest (codes "GET") (codes "/status.txt") (codes "") look_seconds result }
+{
+    looking("/status.txt")
 }
 
 /// Asks a server for what its replicas hold, as far as the task chooses, prints the lines, and answers the status.
@@ -210,7 +217,9 @@ where
 }
 
 // A request that changes nothing.
-fn looking(target: &str) -> Request<'_> {
+fn looking(target: &str) -> Request<'_>
+    ensures { IsRequest (codes "GET") target.now (codes "") look_seconds result }
+{
     Request {
         method: "GET",
         target,
@@ -222,7 +231,9 @@ fn looking(target: &str) -> Request<'_> {
 }
 
 // A request that makes changes.
-fn posting<'a>(target: &'a str, body: &'a [u8]) -> Request<'a> {
+fn posting<'a>(target: &'a str, body: &'a [u8]) -> Request<'a>
+    ensures { IsRequest (codes "POST") target.now body.now change_seconds result }
+{
     Request {
         method: "POST",
         target,
@@ -349,18 +360,37 @@ fn show<O: Write, E: Write>(
     output: &mut Counted<O>,
     errors: &mut Counted<E>,
 ) -> u8
-    ensures { result ≤ 1 }
+    ensures shows { Shows asked answer.entry.status answer.entry.body.now result (seen O.contents output.old output.new) (seen E.contents errors.old errors.new) }
+    ensures status { result ≤ 1 }
 {
-    match shown_of(asked, answer.status, answer.body.is_empty()) {
-        Shown::Body(status) => match write_whole(output, answer.body.as_bytes()) {
-            Ok(()) => status.min(REFUSED),
-            Err(refusal) => tell(alloc, errors, refusal),
-        },
+    let shown = shown_of(asked, answer.status, answer.body.is_empty());
+    show_by(alloc, shown, answer, output, errors)
+}
+
+// Shows so much of an answer, and answers the status.
+fn show_by<O: Write, E: Write>(
+    alloc: Global,
+    shown: Shown,
+    answer: Answer<'_>,
+    output: &mut Counted<O>,
+    errors: &mut Counted<E>,
+) -> u8
+    ensures { ShowsBy shown answer.entry.status answer.entry.body.now result (seen O.contents output.old output.new) (seen E.contents errors.old errors.new) }
+{
+    match shown {
+        Shown::Body(status) => print(answer.body.as_bytes(), status.min(REFUSED), output, errors),
         Shown::Nothing => tell(alloc, errors, Refusal::NotFound),
-        Shown::Refused => match excerpt(alloc, answer.body.trim()) {
-            Ok(why) => tell_refused_by(alloc, errors, answer.status, why.as_str()),
-            Err(refusal) => tell(alloc, errors, refusal),
-        },
+        Shown::Refused => tell_why(alloc, answer, errors),
+    }
+}
+
+// Tells an answer by its status, with what its body says, and answers the status of the program.
+fn tell_why<E: Write>(alloc: Global, answer: Answer<'_>, errors: &mut Counted<E>) -> u8
+    ensures { TellsWhy answer.entry.status answer.entry.body.now result (seen E.contents errors.old errors.new) }
+{
+    match excerpt(alloc, answer.body.trim()) {
+        Ok(why) => tell_refused_by(alloc, errors, answer.status, why.as_str()),
+        Err(_) => tell(alloc, errors, Refusal::OutOfMemory),
     }
 }
 
