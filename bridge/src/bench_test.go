@@ -28,7 +28,8 @@ import (
 // take. The control plane is the program that BRIDGE_BENCH names, or where it is "stand-in" one that costs next to nothing, so
 // that the ratio is of the ways alone. With BRIDGE_BENCH_NAMED the streams ask for the one cluster that is put, and not for all.
 // BRIDGE_BENCH_STREAMS are how many they are ("100 1000"), over BRIDGE_BENCH_CONNECTIONS (4), BRIDGE_BENCH_PUTS is how many puts
-// there are in a round (200), and BRIDGE_BENCH_ROUNDS how many rounds of each (5), which alternate.
+// there are in a round (200), and BRIDGE_BENCH_ROUNDS how many rounds of each (5), which alternate. BRIDGE_PROGRAMS are the
+// bridges, separated by spaces.
 const (
 	benchClusters = 1000
 	benchBytes    = 600
@@ -52,12 +53,15 @@ type bench struct {
 
 // A way is one of those that a put goes to streams.
 type way struct {
-	at    string // its address
-	put   func() string
-	pid   int // or 0
-	grpc  bool
-	took  []time.Duration // each put
-	costs []float64       // each round: microseconds of processor time a put and stream
+	name   string
+	at     string // its address
+	put    func() string
+	pid    int // or 0
+	grpc   bool
+	took   []time.Duration // each put
+	opened []time.Duration // each round: until all streams had been told the first put
+	costs  []float64       // each round: microseconds of processor time a put and stream
+	most   int             // kilobytes of memory that it had at most
 }
 
 func numberOf(word string, left int) int {
@@ -89,12 +93,18 @@ func TestBench(t *testing.T) {
 	if program != "stand-in" {
 		b.settle("http://127.0.0.1:" + rest + "/v3/discovery:clusters")
 	}
-	bridge, peer := exec.Command("../bridge", "--listen", "127.0.0.1:0", "--server", b.framed), exec.Command("../peer")
+	put := func() string { return b.put("c0500") }
+	framed := &way{name: "framed", at: b.framed, put: put}
+	var bridges []*way
+	for _, it := range strings.Fields(os.Getenv("BRIDGE_PROGRAMS")) {
+		bridge := exec.Command(it, "--listen", "127.0.0.1:0", "--server", b.framed)
+		at := strings.Fields(b.starts(bridge, "listening on"))[3]
+		bridges = append(bridges, &way{name: it, at: at, put: put, pid: bridge.Process.Pid, grpc: true})
+	}
+	peer := exec.Command("../peer")
 	input, _ := peer.StdinPipe()
-	bridged := strings.Fields(b.starts(bridge, "listening on"))[3]
 	alone := strings.Fields(b.starts(peer, "listening on"))[2]
 	told := 0
-	put := func() string { return b.put("c0500") }
 	tells := func() string {
 		told++
 		fmt.Fprintln(input, told)
@@ -109,24 +119,44 @@ func TestBench(t *testing.T) {
 	for _, it := range strings.Fields(counts) {
 		b.streams, _ = strconv.Atoi(it)
 		b.told, b.lost = make(chan string, b.streams), make(chan error, b.streams)
-		ways := []*way{{at: b.framed, put: put}, {at: bridged, put: put, pid: bridge.Process.Pid, grpc: true},
-			{at: alone, put: tells, pid: peer.Process.Pid, grpc: true}}
+		by := &way{name: "the peer", at: alone, put: tells, pid: peer.Process.Pid, grpc: true}
+		ways := append([]*way{framed, by}, bridges...)
+		for _, it := range ways {
+			it.took, it.opened, it.costs = nil, nil, nil
+		}
 		for round := 0; round < b.rounds; round++ {
 			for _, it := range ways {
 				b.round(it)
 			}
 		}
-		plain, through, by := median(ways[0].took), median(ways[1].took), median(ways[2].took)
-		fmt.Printf("%d streams, until the last was told: framed %.1f ms, through the bridge %.1f ms, ratio %.2f; by the peer %.1f ms, ratio %.2f\n",
-			b.streams, ms(plain), ms(through), float64(through)/float64(plain), ms(by), float64(through)/float64(by))
-		ours, theirs := middle(ways[1].costs), middle(ways[2].costs)
-		var ratios []float64
-		for i := range ways[1].costs {
-			ratios = append(ratios, ways[1].costs[i]/ways[2].costs[i])
+		for _, it := range ways {
+			it.tell(b.streams, framed, by)
 		}
-		fmt.Printf("%d streams, processor time of a put and stream: the bridge %.1f us, the peer %.1f us, ratio %.2f (of rounds: %.2f, from %.2f to %.2f)\n",
-			b.streams, ours, theirs, ours/theirs, middle(ratios), ratios[0], ratios[len(ratios)-1])
 	}
+}
+
+// tell tells what a way takes, beside framed streams and the peer.
+func (w *way) tell(streams int, framed, peer *way) {
+	line := fmt.Sprintf("%d streams, %s: until the last was told %.1f ms", streams, w.name, ms(median(w.took)))
+	if w != framed {
+		line += fmt.Sprintf(", %.2f times framed", float64(median(w.took))/float64(median(framed.took)))
+	}
+	line += fmt.Sprintf("; all opened in %.1f ms", ms(median(w.opened)))
+	if w.pid != 0 {
+		line += fmt.Sprintf("; processor time of a put and stream %.1f us", middle(w.costs))
+	}
+	if w.pid != 0 && w != peer {
+		var ratios []float64
+		for i := range w.costs {
+			ratios = append(ratios, w.costs[i]/peer.costs[i])
+		}
+		sort.Float64s(ratios)
+		line += fmt.Sprintf(", %.2f times the peer's (of rounds: from %.2f to %.2f)", middle(ratios), ratios[0], ratios[len(ratios)-1])
+	}
+	if w.pid != 0 {
+		line += fmt.Sprintf("; at most %d MB", w.most/1000)
+	}
+	fmt.Println(line)
 }
 
 // costOf is how much processor time a process has had, in microseconds.
@@ -230,6 +260,7 @@ func (b *bench) round(by *way) {
 	if by.grpc {
 		follow = b.followers(ctx, by.at, &first)
 	}
+	begun := time.Now()
 	open.Add(b.streams)
 	for i := 0; i < b.streams; i++ {
 		go func(i int) {
@@ -238,7 +269,8 @@ func (b *bench) round(by *way) {
 		}(i)
 	}
 	b.wait(by.put())
-	b.wait(by.put()) // (those that are before these wait for the streams to open)
+	by.opened = append(by.opened, time.Since(begun))
+	b.wait(by.put())
 	before := 0.0
 	if by.pid != 0 {
 		before = b.costOf(by.pid)
@@ -251,6 +283,7 @@ func (b *bench) round(by *way) {
 	if by.pid != 0 {
 		time.Sleep(50 * time.Millisecond) // (the last answers)
 		by.costs = append(by.costs, (b.costOf(by.pid)-before)/float64(b.each*b.streams))
+		by.most = mostMemory(b.T, by.pid)
 	}
 }
 
@@ -354,11 +387,13 @@ func (b *bench) followBridged(ctx context.Context, conn *grpc.ClientConn, reques
 }
 
 func middle(of []float64) float64 {
+	of = append([]float64(nil), of...)
 	sort.Float64s(of)
 	return of[len(of)/2]
 }
 
 func median(of []time.Duration) time.Duration {
+	of = append([]time.Duration(nil), of...)
 	sort.Slice(of, func(i, j int) bool { return of[i] < of[j] })
 	return of[len(of)/2]
 }
