@@ -31,7 +31,7 @@ func newAlikes() *alikes { return &alikes{seed: maphash.MakeSeed()} }
 // A cut is a response's text, cut behind its nonce.
 type cut struct {
 	nonce, rest []byte
-	place       *atomic.Pointer[alike]
+	place       *atomic.Pointer[alike] // where the response is looked for, of a short one
 }
 
 var nonceBegin = []byte(`{"nonce":"`)
@@ -51,6 +51,9 @@ func (a *alikes) cut(text []byte, delta bool) (c cut, ok bool) {
 		of = &a.delta[1]
 	}
 	c.nonce, c.rest = behind[:end], behind[end+1:]
+	if len(text) >= sharedFrom {
+		return c, true
+	}
 	c.place = &of[maphash.Bytes(a.seed, c.rest)%alikeMost]
 	return c, true
 }

@@ -26,12 +26,14 @@ import (
 // What bridge/bench runs: how long a put takes until each of many streams was told it, framed, by gRPC through the bridge, and by
 // the peer (bridge/peer), an xDS server in Go over gRPC; and the processor time of a put and stream that the bridge and the peer
 // take. The control plane is the program that BRIDGE_BENCH names, or where it is "stand-in" one that costs next to nothing, so
-// that the ratio is of the ways alone. With BRIDGE_BENCH_NAMED the streams ask for the one cluster that is put, and not for all.
+// that the ratio is of the ways alone. With BRIDGE_BENCH_NAMED the streams ask for the one cluster that is put, and not for all;
+// with BRIDGE_BENCH_HELD they say that they hold all.
 // BRIDGE_BENCH_STREAMS are how many they are ("100 1000"), over BRIDGE_BENCH_CONNECTIONS (4), BRIDGE_BENCH_PUTS is how many puts
 // there are in a round (200), and BRIDGE_BENCH_ROUNDS how many rounds of each (5), which alternate. BRIDGE_PROGRAMS are the
 // bridges, separated by spaces.
 const (
 	benchClusters = 1000
+	benchPut      = "c0500" // the cluster that is put
 	benchBytes    = 600
 	benchPatience = 60 * time.Second
 )
@@ -93,7 +95,7 @@ func TestBench(t *testing.T) {
 	if program != "stand-in" {
 		b.settle("http://127.0.0.1:" + rest + "/v3/discovery:clusters")
 	}
-	put := func() string { return b.put("c0500") }
+	put := func() string { return b.put(benchPut) }
 	framed := &way{name: "framed", at: b.framed, put: put}
 	var bridges []*way
 	for _, it := range strings.Fields(os.Getenv("BRIDGE_PROGRAMS")) {
@@ -240,19 +242,21 @@ func (b *bench) settle(at string) {
 	b.Fatalf("%d puts weren't applied", b.puts)
 }
 
-// round opens streams of clients that hold all that there is, puts a cluster some times, and notes how long each put took to be
-// told on all, and what it cost.
+// round opens streams, which are told all that there is, puts a cluster some times, and notes how long each put took to be told on
+// all, and what it cost.
 func (b *bench) round(by *way) {
 	ctx, cancel := context.WithCancel(context.Background())
 	var open sync.WaitGroup
 	defer open.Wait()
 	defer cancel()
-	names, held := []string{"*"}, b.versions
+	asks := map[string]interface{}{"resourceNamesSubscribe": []string{"*"}, "typeUrl": clusterURL}
 	if os.Getenv("BRIDGE_BENCH_NAMED") != "" {
-		names, held = []string{"c0500"}, map[string]string{"c0500": b.versions["c0500"]}
+		asks["resourceNamesSubscribe"] = []string{benchPut}
 	}
-	first, err := json.Marshal(map[string]interface{}{
-		"resourceNamesSubscribe": names, "typeUrl": clusterURL, "initialResourceVersions": held})
+	if os.Getenv("BRIDGE_BENCH_HELD") != "" {
+		asks["initialResourceVersions"] = b.versions
+	}
+	first, err := json.Marshal(asks)
 	if err != nil {
 		b.Fatal(err)
 	}
@@ -333,7 +337,7 @@ func (b *bench) follow(ctx context.Context, _ int, request []byte) {
 			b.lost <- err
 			return
 		}
-		b.told <- r.resources[0].version
+		b.told <- versionOf(r)
 		request, _ = json.Marshal(map[string]string{"responseNonce": r.nonce, "typeUrl": clusterURL})
 	}
 }
@@ -381,9 +385,19 @@ func (b *bench) followBridged(ctx context.Context, conn *grpc.ClientConn, reques
 			return err
 		}
 		r := readWire(in.wire)
-		b.told <- r.resources[0].version
+		b.told <- versionOf(r)
 		request = appendText(appendText(nil, 2, clusterURL), 6, r.nonce)
 	}
+}
+
+// versionOf is the version of the cluster that is put, or empty where a response doesn't tell it.
+func versionOf(r *response) string {
+	for i := range r.resources {
+		if r.resources[i].name == benchPut {
+			return r.resources[i].version
+		}
+	}
+	return ""
 }
 
 func middle(of []float64) float64 {

@@ -21,8 +21,10 @@ const (
 const (
 	// frameHead is how many bytes stand before a text: four of length, one of kind.
 	frameHead = 5
-	// shortText is how many bytes a text has at most that is copied to be written in one piece with what stands before it.
-	shortText = 1 << 10
+	// shortText is how many bytes a text has at most for which there are buffers, and copiedText how many one has that is copied to
+	// be written in one piece with what stands before it.
+	shortText  = 1 << 10
+	copiedText = 64 << 10
 )
 
 // maxText is the length of the longest text that a frame has room for.
@@ -39,20 +41,29 @@ type errBadFrame string
 func (e errBadFrame) Error() string { return string(e) }
 
 // writeFrame writes one frame: four bytes of length, one of kind, the text.
-func writeFrame(conn net.Conn, kind byte, text []byte) error {
-	if len(text) > maxText {
+func writeFrame(to io.Writer, kind byte, text []byte) error {
+	switch {
+	case len(text) > maxText:
 		return errTooLong
+	case len(text) <= shortText:
+		whole := shortFrames.Get().(*[frameHead + shortText]byte)
+		defer shortFrames.Put(whole)
+		copy(whole[frameHead:], text)
+		return writeWhole(to, kind, whole[:frameHead+len(text)])
+	case len(text) <= copiedText:
+		return writeWhole(to, kind, append(make([]byte, frameHead, frameHead+len(text)), text...))
 	}
 	var head [frameHead]byte
 	putHead(head[:], kind, len(text))
-	if len(text) <= shortText {
-		whole := shortFrames.Get().(*[frameHead + shortText]byte)
-		defer shortFrames.Put(whole)
-		_, err := conn.Write(whole[:copy(whole[:], head[:])+copy(whole[frameHead:], text)])
-		return err
-	}
 	parts := net.Buffers{head[:], text}
-	_, err := parts.WriteTo(conn)
+	_, err := parts.WriteTo(to)
+	return err
+}
+
+// writeWhole writes a frame whose text stands behind the room for what stands before it.
+func writeWhole(to io.Writer, kind byte, frame []byte) error {
+	putHead(frame, kind, len(frame)-frameHead)
+	_, err := to.Write(frame)
 	return err
 }
 
@@ -161,6 +172,18 @@ func (r *frameReader) fill(length int) error {
 		}
 	}
 	return nil
+}
+
+// wholeText is the text of a short frame of a kind with which bytes begin. It answers false where they begin with something else.
+func wholeText(bytes []byte, kind byte) (text []byte, ok bool) {
+	if len(bytes) < frameHead || bytes[4] != kind {
+		return nil, false
+	}
+	length := binary.BigEndian.Uint32(bytes)
+	if length == 0 || length > sharedFrom || int(length) > len(bytes)-(frameHead-1) {
+		return nil, false
+	}
+	return bytes[frameHead : frameHead-1+length], true
 }
 
 // within is an error that was met behind a frame's first byte.

@@ -156,22 +156,13 @@ func (b *bridge) isStopping() bool {
 	}
 }
 
-// A firstByte tells of a stream whether the server took it: it did once something came, and it is in doubt where the
-// server ends it.
-type firstByte struct {
-	net.Conn
-	reach *reach
-	came  bool
-}
-
-func (f *firstByte) Read(to []byte) (int, error) {
-	n, err := f.Conn.Read(to)
-	if n > 0 && !f.came {
-		f.came = true
-		f.reach.say(true)
+// reads notes what reading a stream shows: the server took it once something came, and it is in doubt where the server ends it.
+func (r *reach) reads(n int, err error, came *bool) {
+	if n > 0 && !*came {
+		*came = true
+		r.say(true)
 	}
 	if errors.Is(err, io.EOF) {
-		f.reach.doubt()
+		r.doubt()
 	}
-	return n, err
 }

@@ -14,6 +14,8 @@ const (
 	pieceSize = 32 << 10
 	// headSize is how many bytes gRPC puts before a message: whether it is compressed, and its length.
 	headSize = 5
+	// copiedBody is how many bytes the body of a message has at most that is copied.
+	copiedBody = 2 << 10
 )
 
 // pieces are bytes in pieces, each in memory of its own: who holds one doesn't hold the others.
@@ -82,6 +84,28 @@ func preparedField(name string) (offset uintptr, ok bool) {
 	return field.Offset, true
 }
 
+// quotaOf is where gRPC has how many bytes a stream may have that aren't written yet. While it is more than 0, who sends a message
+// doesn't wait. It is nil where this version of the package has it elsewhere.
+func quotaOf(client grpc.ServerStream) *int32 {
+	of := reflect.ValueOf(grpc.ServerTransportStreamFromContext(client.Context()))
+	if of.Kind() != reflect.Ptr || of.IsNil() || of.Type().Elem().Kind() != reflect.Struct {
+		return nil
+	}
+	quotas, ok := of.Type().Elem().FieldByName("wq")
+	if !ok || quotas.Type.Kind() != reflect.Ptr || quotas.Type.Elem().Kind() != reflect.Struct || len(quotas.Index) != 1 {
+		return nil
+	}
+	quota, ok := quotas.Type.Elem().FieldByName("quota")
+	if !ok || quota.Type.Kind() != reflect.Int32 || len(quota.Index) != 1 {
+		return nil
+	}
+	at := *(*unsafe.Pointer)(unsafe.Add(unsafe.Pointer(of.Pointer()), quotas.Offset))
+	if at == nil {
+		return nil
+	}
+	return (*int32)(unsafe.Add(at, quota.Offset))
+}
+
 // sendPiece sends a head and a piece, as they are.
 func (s *stream) sendPiece(head, piece []byte) error {
 	*(*[]byte)(unsafe.Add(unsafe.Pointer(&s.piece), preparedHead)) = head
@@ -126,11 +150,8 @@ func (s *stream) send(number int, nonce string) error {
 	if body == nil {
 		return errSlow
 	}
-	if s.inPieces && s.compressor == nil && len(body.all) == 1 {
-		// (the order of a message's fields is any: so the nonce is in a stream's own bytes, before those that streams share)
-		own := appendText(make([]byte, headSize, headSize+sizeText(responseNonce, nonce)), responseNonce, nonce)
-		putSize(own, len(own)-headSize+body.size, false)
-		return s.sendPiece(own, body.all[0])
+	if s.isPlain(body) {
+		return s.sendPiece(plainMessage(body, nonce))
 	}
 	tail := appendText(nil, responseNonce, nonce)
 	size := body.size + len(tail)
@@ -147,6 +168,27 @@ func (s *stream) send(number int, nonce string) error {
 		size, tail = own.size, nil
 	}
 	return s.sendPieces(number, headOf(size, s.compressor != nil), tail)
+}
+
+// isPlain tells whether a message is one piece, which is sent behind its nonce as it is.
+func (s *stream) isPlain(body *pieces) bool {
+	return s.inPieces && s.compressor == nil && len(body.all) == 1
+}
+
+// plainMessage is a head and a payload of a message that is one piece. The order of a message's fields is any: so the nonce is in
+// bytes of its own, before those that streams share. A short message is copied: where gRPC joins a head and a payload it clears
+// 16 KiB first, which takes longer.
+func plainMessage(body *pieces, nonce string) (head, payload []byte) {
+	size, copied := sizeText(responseNonce, nonce), 0
+	if body.size <= copiedBody {
+		copied = body.size
+	}
+	own := appendText(make([]byte, headSize, headSize+size+copied), responseNonce, nonce)
+	putSize(own, size+body.size, false)
+	if copied == 0 {
+		return own, body.all[0]
+	}
+	return nil, append(own, body.all[0]...)
 }
 
 // sendPieces sends a message piece by piece. Of those that aren't sent yet it holds none: the place does.

@@ -3,13 +3,14 @@ package main
 import (
 	"context"
 	"fmt"
+	"io"
 	"net"
 
 	"google.golang.org/grpc/peer"
 )
 
 // sayClient says to the control plane whose stream a connection carries, where that is asked for: version 1 of HAProxy's PROXY protocol.
-func (b *bridge) sayClient(ctx context.Context, server net.Conn) error {
+func (b *bridge) sayClient(ctx context.Context, server io.Writer) error {
 	from, ok := peer.FromContext(ctx)
 	if !b.addresses || !ok {
 		return nil

@@ -15,13 +15,6 @@ type request struct {
 	fields  protoreflect.FieldDescriptors
 }
 
-func readRequest(of protoreflect.MessageType, delta bool, wire []byte) (*request, error) {
-	if it := readShort(wire, delta); it != nil {
-		return &request{short: it, of: of}, nil
-	}
-	return readLong(of, wire)
-}
-
 // readLong reads any request.
 func readLong(of protoreflect.MessageType, wire []byte) (r *request, err error) {
 	defer asError(&err)

@@ -248,9 +248,9 @@ func (r *response) body(delta bool, identifier string, resources []resource, rem
 
 // assembledOf is what clients are sent of a response's text, which streams share, and its nonce.
 func (b *bridge) assembledOf(text []byte, delta bool) (*assembled, string, error) {
+	cut, isCut := b.alikes.cut(text, delta)
 	if len(text) < sharedFrom {
-		cut, ok := b.alikes.cut(text, delta)
-		if !ok {
+		if !isCut {
 			return b.assemble(text, delta)
 		}
 		if made := cut.made(); made != nil {
@@ -262,14 +262,23 @@ func (b *bridge) assembledOf(text []byte, delta bool) (*assembled, string, error
 		}
 		return made, nonce, err
 	}
-	key, nonce, err := keyOf(text, delta)
+	assemble := func() (*assembled, error) {
+		made, _, err := b.assemble(text, delta)
+		return made, err
+	}
+	if isCut {
+		made, err := b.shared.of(cut.keyOf(b.shared.digests, delta), assemble)
+		if err == nil && made.nonces != 1 {
+			_, nonce, err := b.shared.digests.keyOf(text, delta)
+			return made, nonce, err
+		}
+		return made, string(cut.nonce), err
+	}
+	key, nonce, err := b.shared.digests.keyOf(text, delta)
 	if err != nil {
 		return nil, "", err
 	}
-	made, err := b.shared.of(key, func() (*assembled, error) {
-		made, _, err := b.assemble(text, delta)
-		return made, err
-	})
+	made, err := b.shared.of(key, assemble)
 	return made, nonce, err
 }
 

@@ -30,6 +30,7 @@ type bridge struct {
 	shared   *assemblies
 	alikes   *alikes
 	rooms    *rooms
+	links    links
 	inPieces bool // long messages are sent piece by piece
 	limits   *limits
 	files    []*protoregistry.Files // for reflection

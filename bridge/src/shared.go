@@ -2,8 +2,9 @@ package main
 
 import (
 	"container/list"
-	"crypto/sha256"
-	"fmt"
+	"crypto/aes"
+	"crypto/cipher"
+	"crypto/rand"
 	"sync"
 )
 
@@ -39,32 +40,69 @@ func (a *assembled) size() (size int) {
 	return size
 }
 
-// responseKey is what tells responses apart, but for their nonces.
-type responseKey [sha256.Size]byte
+// A responseKey is what tells responses apart, but for their nonces.
+type responseKey struct {
+	rest  [16]byte // a digest of the text without the nonce
+	first bool     // the text began with the nonce
+	delta bool
+	room  int // for the nonce
+}
+
+// A digester makes digests of texts with a key that nobody knows. Two texts that don't depend on it have the same with a chance
+// of at most 1 in 2 to the 128 for each 16 of their bytes: they are the tags of GCM for one nonce, which are linear in the key's
+// powers. That takes a tenth of the time of a digest that holds without a key.
+type digester struct{ by cipher.AEAD }
+
+func newDigester() digester {
+	var key [16]byte
+	if _, err := rand.Read(key[:]); err != nil {
+		panic(err)
+	}
+	block, err := aes.NewCipher(key[:])
+	if err != nil {
+		panic(err)
+	}
+	by, err := cipher.NewGCM(block)
+	if err != nil {
+		panic(err)
+	}
+	return digester{by}
+}
+
+func (d digester) of(text []byte) (made [16]byte) {
+	var none [12]byte
+	d.by.Seal(made[:0], none[:], nil, text)
+	return made
+}
 
 // keyOf is the key of a response's text, and its nonce.
-func keyOf(text []byte, delta bool) (key responseKey, nonce string, err error) {
-	sum, written := sha256.New(), 0
+func (d digester) keyOf(text []byte, delta bool) (key responseKey, nonce string, err error) {
+	var rest []byte
+	written := 0
 	err = members(text, func(name string, value []byte) (err error) {
 		if name == "nonce" {
 			// (value is a piece of text, so the rest of both ends at the same place)
 			begin := cap(text) - cap(value)
-			sum.Write(text[written:begin])
+			rest = append(rest, text[written:begin]...)
 			written = begin + len(value)
 			nonce, err = textOf(value)
 		}
 		return err
 	})
-	sum.Write(text[written:])
-	fmt.Fprint(sum, delta, nonceRoom(nonce))
-	sum.Sum(key[:0])
-	return key, nonce, err
+	return responseKey{d.of(append(rest, text[written:]...)), false, delta, nonceRoom(nonce)}, nonce, err
+}
+
+// keyOf is the key of a response that is cut. It is that of all responses that are alike but for this nonce, of which there may be
+// another behind it.
+func (c *cut) keyOf(d digester, delta bool) responseKey {
+	return responseKey{d.of(c.rest), true, delta, nonceRoom(string(c.nonce))}
 }
 
 // assemblies keeps what was assembled last, in a bounded number of bytes, and what clients are being sent. What is being
 // assembled isn't assembled a second time meanwhile: who wants it waits for it.
 type assemblies struct {
-	most int
+	most    int
+	digests digester
 
 	mutex  sync.Mutex
 	held   map[responseKey]*assembly
@@ -85,7 +123,7 @@ type assembly struct {
 }
 
 func newAssemblies(most int) *assemblies {
-	return &assemblies{most: most, held: map[responseKey]*assembly{}, recent: list.New()}
+	return &assemblies{most: most, digests: newDigester(), held: map[responseKey]*assembly{}, recent: list.New()}
 }
 
 // of gives what is made of a key's response, by assemble where that isn't there yet. It is noted to be sent once more.

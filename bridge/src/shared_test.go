@@ -67,7 +67,7 @@ func TestWhatIsSharedIsBounded(t *testing.T) {
 			defer all.Done()
 			for n := 0; n < 2000; n++ {
 				of := byte(random.Intn(60))
-				made, err := a.of(responseKey{of}, func() (*assembled, error) {
+				made, err := a.of(responseKey{room: int(of)}, func() (*assembled, error) {
 					if of == 0 {
 						return nil, errTooLong
 					}

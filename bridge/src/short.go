@@ -35,15 +35,23 @@ var usualTypes = func() map[string]string {
 
 // readShort reads a request that is a short one. It answers nil for all others, and for what is no request.
 func readShort(wire []byte, delta bool) *short {
-	r := new(short)
+	if r := new(short); r.read(wire, delta) {
+		return r
+	}
+	return nil
+}
+
+// read reads a request that is a short one, and answers false for all others.
+func (r *short) read(wire []byte, delta bool) bool {
+	*r = short{}
 	for len(wire) > 0 {
 		field, kind, n := protowire.ConsumeTag(wire)
 		if n < 0 || kind != protowire.BytesType {
-			return nil
+			return false
 		}
 		value, m := protowire.ConsumeBytes(wire[n:])
 		if m < 0 || !plain(value) {
-			return nil
+			return false
 		}
 		wire = wire[n+m:]
 		switch {
@@ -60,10 +68,10 @@ func readShort(wire []byte, delta bool) *short {
 		case !delta && field == requestNames:
 			r.names = append(r.names, string(value))
 		default:
-			return nil
+			return false
 		}
 	}
-	return r
+	return true
 }
 
 // text is a field that is a text, by its name in the descriptors.

@@ -3,7 +3,7 @@ package main
 import (
 	"errors"
 	"io"
-	"net"
+	"reflect"
 	"sync"
 	"sync/atomic"
 	"time"
@@ -45,11 +45,16 @@ type stream struct {
 	*variant
 	only   string // the type URL of a service of a single type, else empty
 	client grpc.ServerStream
-	server net.Conn
-	named  bool // the client may say that it is of the cluster that it says; of the thread that takes requests
+	from   uintptr // the same for all streams of a connection
+	server *link
+	ended  chan error // has one in it once responses have ended
+	came   bool       // something came from the server; of who reads responses
+	named  bool       // the client may say that it is of the cluster that it says; of the thread that takes requests
+	short  short      // the request that is carried, of that thread
 
 	inPieces   bool // long messages are sent piece by piece
 	compressor encoding.Compressor
+	quota      *int32           // how many bytes may wait to be written to the client, or nil where that isn't known
 	piece      grpc.PreparedMsg // what is being sent, of who is sending
 	place      *place
 	sending    chan struct{} // has one in it while a message is sent, and once the stream is over
@@ -80,9 +85,12 @@ type asked struct {
 // carry carries one stream until either side ends it, and answers the status for the client.
 func (b *bridge) carry(client grpc.ServerStream, v *variant, only string) error {
 	s := &stream{bridge: b, variant: v, only: only, client: client, asked: map[string]*asked{}, place: newPlace(client.Context().Done()),
-		sending: make(chan struct{}, 1), over: make(chan struct{})}
+		sending: make(chan struct{}, 1), over: make(chan struct{}), ended: make(chan error, 1), quota: quotaOf(client)}
 	compressor, known := compressorOf(client)
 	s.compressor, s.inPieces = compressor, known && b.inPieces
+	if it, ok := peer.FromContext(client.Context()); ok && reflect.ValueOf(it.Addr).Kind() == reflect.Ptr {
+		s.from = reflect.ValueOf(it.Addr).Pointer()
+	}
 	defer close(s.over)
 	err := s.carry()
 	// (a status comes behind whole messages, as far as the client takes them)
@@ -108,8 +116,7 @@ func (s *stream) carry() error {
 		b.counters.add(numTurned, 1)
 		return status.Errorf(codes.ResourceExhausted, "the bridge has as many streams as it may have, %d (--max-streams)", b.maxStreams)
 	}
-	dialer := net.Dialer{Timeout: dialTime}
-	server, err := dialer.DialContext(client.Context(), "tcp", b.server)
+	server, err := b.links.dial(client.Context(), b.server)
 	if err != nil {
 		if client.Context().Err() == nil {
 			b.reach.say(false)
@@ -124,9 +131,11 @@ func (s *stream) carry() error {
 		return broken(err)
 	}
 	defer s.leave()
-	requests, responses := make(chan error, 1), make(chan error, 1)
+	requests := make(chan error, 1)
 	go func() { requests <- s.takeRequests() }()
-	go func() { responses <- s.takeResponses() }()
+	if err := server.begin(s.quick, func(rest []byte) { go s.slow(rest) }); err != nil {
+		return b.unreachable(err)
+	}
 	for {
 		select {
 		case err := <-requests:
@@ -134,7 +143,7 @@ func (s *stream) carry() error {
 				return err
 			}
 			requests = nil // the client asks for nothing more: what it is still owed goes on
-		case err := <-responses:
+		case err := <-s.ended:
 			return err
 		case <-client.Context().Done():
 			return status.FromContextError(client.Context().Err()).Err()
@@ -180,7 +189,7 @@ func (s *stream) takeRequests() error {
 		} else if err != nil {
 			return err
 		}
-		r, err := readRequest(s.message, s.delta, in.wire)
+		r, err := s.readRequest(in.wire)
 		if err != nil {
 			return status.Errorf(codes.InvalidArgument, "the request is no %s: %s", s.message.Descriptor().Name(), plainError(err))
 		}
@@ -190,6 +199,14 @@ func (s *stream) takeRequests() error {
 	}
 }
 
+// readRequest reads a request, which is good until the next.
+func (s *stream) readRequest(wire []byte) (*request, error) {
+	if s.short.read(wire, s.delta) {
+		return &request{short: &s.short, of: s.message}, nil
+	}
+	return readLong(s.message, wire)
+}
+
 // half tells the server that the client has no more requests.
 func (s *stream) half() error {
 	s.writing.Lock()
@@ -197,10 +214,8 @@ func (s *stream) half() error {
 	s.mutex.Lock()
 	s.closed = true
 	s.mutex.Unlock()
-	if tcp, ok := s.server.(*net.TCPConn); ok {
-		if err := tcp.CloseWrite(); err != nil {
-			return broken(err)
-		}
+	if err := s.server.CloseWrite(); err != nil {
+		return broken(err)
 	}
 	return nil
 }
@@ -227,11 +242,28 @@ func (s *stream) ask(r *request) error {
 	if nothing, err := s.note(r); err != nil || nothing {
 		return err
 	}
+	if r.short != nil {
+		return s.askShort(r.short)
+	}
 	text, err := r.json(s.bridge.types)
 	if err != nil {
 		return status.Errorf(codes.InvalidArgument, "the request can't be said in JSON: %s", plainError(err))
 	}
 	if err := writeFrame(s.server, s.request, text); err != nil {
+		return broken(err)
+	}
+	return nil
+}
+
+// askShort carries a short request.
+func (s *stream) askShort(r *short) error {
+	room := shortFrames.Get().(*[frameHead + shortText]byte)
+	defer shortFrames.Put(room)
+	frame := r.appendJSON(room[:frameHead])
+	if len(frame) > frameHead+maxText {
+		return broken(errTooLong)
+	}
+	if err := writeWhole(s.server, s.request, frame); err != nil {
 		return broken(err)
 	}
 	return nil
@@ -294,12 +326,138 @@ func sizeOf(names []string) (size int) {
 	return size
 }
 
-// takeResponses carries responses, one at a time.
-func (s *stream) takeResponses() error {
-	frames := newFrameReader(&firstByte{Conn: s.server, reach: s.bridge.reach})
-	frames.rooms, frames.place = s.bridge.rooms, s.place
-	defer frames.leave()
+// quick carries short responses with which bytes begin, as long as that needs no waiting, and answers how many bytes they have.
+// What is made of each has to be there, as another stream was told alike, and gRPC has to have room for it.
+func (s *stream) quick(bytes []byte, to *batch) (done int) {
+	s.bridge.reach.reads(len(bytes), nil, &s.came)
 	for {
+		text, ok := wholeText(bytes[done:], s.response)
+		if !ok || !s.isQuick(text, to) {
+			return done
+		}
+		done += frameHead + len(text)
+	}
+}
+
+// isQuick has a short response sent, if that can be done at once.
+func (s *stream) isQuick(text []byte, to *batch) bool {
+	if s.quota == nil || atomic.LoadInt32(s.quota) <= 0 {
+		return false
+	}
+	c, ok := s.bridge.alikes.cut(text, s.delta)
+	if !ok {
+		return false
+	}
+	a := c.made()
+	if a == nil || !s.isPlain(a.bodies[0]) {
+		return false
+	}
+	select {
+	case s.sending <- struct{}{}:
+	default:
+		return false
+	}
+	nonce := string(c.nonce)
+	s.tells(a, nonce, len(text))
+	to.all = append(to.all, sending{s, a.bodies[0], nonce})
+	return true
+}
+
+// sendNow sends what isQuick has sent.
+func (s *stream) sendNow(head, payload []byte) {
+	err := s.sendPiece(head, payload)
+	<-s.sending
+	if err != nil {
+		s.server.keep(false)
+		s.ends(err)
+	}
+}
+
+// ends ends responses, once.
+func (s *stream) ends(err error) {
+	select {
+	case s.ended <- err:
+	default:
+	}
+}
+
+// tells notes that a response goes to the client.
+func (s *stream) tells(a *assembled, nonce string, length int) {
+	if s.isWhole(a.typeURL) {
+		s.bridge.limits.note(a.typeURL, s.variant, length, a.length)
+	}
+	s.passes(a, nonce)
+}
+
+// slow carries responses, first those that begin with what was read, until there is nothing more to read for now.
+func (s *stream) slow(rest []byte) {
+	from := lentBytes{stream: s, rest: rest}
+	frames := lentFrames.Get().(*frameReader)
+	frames.from.Reset(&from)
+	frames.rooms, frames.place = s.bridge.rooms, s.place
+	err := s.takeResponses(frames, &from)
+	frames.leave()
+	frames.from.Reset(nil)
+	frames.rooms, frames.place = nil, nil
+	if cap(frames.text) <= roomFrom {
+		lentFrames.Put(frames)
+	}
+	if err != errBack {
+		s.ends(err)
+	}
+}
+
+// errBack is what takeResponses answers once the link was given back.
+var errBack = errors.New("the link was given back")
+
+// lentFrames are readers of frames for links that are lent.
+var lentFrames = sync.Pool{New: func() interface{} { return newFrameReader(nil) }}
+
+// lentBytes are what comes from a stream's link, behind what was read of it.
+type lentBytes struct {
+	stream *stream
+	rest   []byte
+	now    bool // reading doesn't wait
+}
+
+func (f *lentBytes) Read(to []byte) (n int, err error) {
+	if len(f.rest) > 0 {
+		n = copy(to, f.rest)
+		f.rest = f.rest[n:]
+		return n, nil
+	}
+	if f.now {
+		n, err = f.stream.server.now(to)
+	} else {
+		n, err = f.stream.server.Read(to)
+	}
+	f.stream.bridge.reach.reads(n, err, &f.stream.came)
+	return n, err
+}
+
+// back gives the link back, where nothing is left to read.
+func (f *lentBytes) back(frames *frameReader) bool {
+	for frames.from.Buffered() == 0 && len(f.rest) == 0 {
+		frames.leave()
+		if f.stream.server.back() {
+			return true
+		}
+		f.now = true
+		_, err := frames.from.Peek(1)
+		f.now = false
+		if err != errLater || f.stream.server.isEnding() {
+			return false // (an error comes again, and the end soon)
+		}
+	}
+	return false
+}
+
+// takeResponses carries responses, one at a time, until the link was given back.
+func (s *stream) takeResponses(frames *frameReader, from *lentBytes) error {
+	for {
+		if from.back(frames) {
+			return errBack
+		}
 		kind, text, err := frames.next()
 		if err == errOver {
 			return err
@@ -330,17 +488,14 @@ func (s *stream) takeResponses() error {
 			s.place.leave()
 		}
 		a.isSent(-1) // (the room says it from now on)
-		if s.isWhole(a.typeURL) {
-			s.bridge.limits.note(a.typeURL, s.variant, length, a.length)
-		}
 		s.bridge.tellBad(a.typeURL, a.bad)
 		if a.why != "" {
-			if err := s.refuse(a, nonce); err != nil {
+			if err := s.refuse(a, nonce, length); err != nil {
 				return err
 			}
 			continue
 		}
-		s.passes(a, nonce)
+		s.tells(a, nonce, length)
 		if err := s.sendAll(len(a.bodies), nonce); err != nil {
 			return err
 		}
@@ -417,7 +572,10 @@ func (b *bridge) tellBad(typeURL string, bad []*fault) {
 
 // rule: whole-or-nothing
 // refuse refuses a response in the client's place.
-func (s *stream) refuse(a *assembled, nonce string) error {
+func (s *stream) refuse(a *assembled, nonce string, length int) error {
+	if s.isWhole(a.typeURL) {
+		s.bridge.limits.note(a.typeURL, s.variant, length, a.length)
+	}
 	s.writing.Lock()
 	defer s.writing.Unlock()
 	s.mutex.Lock()
