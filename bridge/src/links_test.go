@@ -261,7 +261,7 @@ func TestManyStreamsAreToldAlike(t *testing.T) {
 		}
 		k.asks(`{"typeUrl":"` + of + `"}`)
 		text := func(n int) string {
-			return fmt.Sprintf(`{"nonce":"%d.%d","removedResources":["%d%s"],"typeUrl":"%s"}`, i%2, n, n, strings.Repeat("x", n%3*5000), of)
+			return fmt.Sprintf(`{"nonce":"%d.%d","removedResources":["%d%s"],"typeUrl":"%s"}`, i%2, n, n, strings.Repeat("x", []int{0, 5000, 10_000, 70_000}[n%4]), of)
 		}
 		all.Add(2)
 		go func() {

@@ -396,7 +396,9 @@ func (s *stream) slow(rest []byte) {
 	frames.from.Reset(&from)
 	frames.rooms, frames.place = s.bridge.rooms, s.place
 	err := s.takeResponses(frames, &from)
-	frames.leave()
+	if err != errBack { // (else the place may be another thread's already)
+		frames.leave()
+	}
 	frames.from.Reset(nil)
 	frames.rooms, frames.place = nil, nil
 	if cap(frames.text) <= roomFrom {
