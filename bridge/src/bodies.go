@@ -62,6 +62,22 @@ func (b *bodies) of(text []byte) ([]byte, error) {
 	return it.wire, it.err
 }
 
+// has tells whether a text is converted, or can't be, which takes no time to find.
+func (b *bodies) has(text []byte) bool {
+	b.mutex.Lock()
+	defer b.mutex.Unlock()
+	found, ok := b.held[string(text)]
+	if !ok {
+		return false
+	}
+	select {
+	case <-found.Value.(*body).done:
+		return true
+	default:
+		return false
+	}
+}
+
 // weigh counts an entry as it now is, and drops what there is no room for.
 func (b *bodies) weigh(it *body) {
 	b.bytes -= it.bytes

@@ -1,9 +1,11 @@
 package main
 
 import (
+	"bytes"
 	"errors"
 	"fmt"
 	"math/rand"
+	"strings"
 	"sync"
 	"testing"
 	"time"
@@ -77,6 +79,64 @@ func TestTheBoundHolds(t *testing.T) {
 		}
 		if b.bytes > most || sum != b.bytes || len(b.held) != b.recent.Len() {
 			t.Error(most, fmt.Sprint(b.bytes, sum, len(b.held), b.recent.Len()))
+		}
+	}
+}
+
+func TestWhatIsConverted(t *testing.T) {
+	begin := make(chan struct{})
+	b := newBodies(1000, func(text []byte) ([]byte, error) {
+		<-begin
+		return text, nil
+	})
+	done := make(chan struct{})
+	go func() {
+		_, _ = b.of([]byte("a"))
+		close(done)
+	}()
+	for b.len() == 0 {
+		time.Sleep(time.Millisecond)
+	}
+	if b.has([]byte("a")) {
+		t.Fatal("it is being converted")
+	}
+	close(begin)
+	<-done
+	if !b.has([]byte("a")) || b.has([]byte("b")) {
+		t.Fatal("a is converted, and b isn't")
+	}
+}
+
+func (b *bodies) len() int {
+	b.mutex.Lock()
+	defer b.mutex.Unlock()
+	return len(b.held)
+}
+
+// What the loop puts together of a response is what a thread does, once its resources are converted and not before.
+func TestResponsesThatNeedNoConversion(t *testing.T) {
+	w := newWorld(t)
+	for _, delta := range []bool{true, false} {
+		for _, nonce := range []string{"1", strings.Repeat("n", 100)} {
+			text := []byte(clustersText(nonce+"x", 3, delta))
+			if delta && nonce == "1" {
+				if made, _ := w.bridge.assembledNow(text, delta); made != nil {
+					t.Fatal("nothing is converted yet")
+				}
+			}
+			want, told, err := w.bridge.assemble(text, delta)
+			if err != nil {
+				t.Fatal(err)
+			}
+			made, nonce := w.bridge.assembledNow(text, delta)
+			if made == nil || nonce != told || !bytes.Equal(made.bodies[0].with(nil), want.bodies[0].with(nil)) {
+				t.Fatal(delta, nonce, made)
+			}
+		}
+	}
+	for _, text := range []string{`{"nonce":1}`, `[]`, `{"nonce":"1","resources":[{"name":"a"}]}`} {
+		if made, _ := w.bridge.assembledNow([]byte(text), true); made != nil {
+			t.Fatal(text)
 		}
 	}
 }

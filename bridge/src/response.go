@@ -150,6 +150,25 @@ func (b *bridge) assemble(text []byte, delta bool) (*assembled, string, error) {
 	if err != nil {
 		return nil, "", err
 	}
+	return b.assembledFrom(r, delta), r.nonce, nil
+}
+
+// assembleReady does the same of a response whose resources are all converted. It answers nil for all others.
+func (b *bridge) assembleReady(text []byte, delta bool) (*assembled, string) {
+	r, err := readResponse(text, delta)
+	if err != nil {
+		return nil, ""
+	}
+	for i := range r.resources {
+		if !b.bodies.has(r.resources[i].text) {
+			return nil, ""
+		}
+	}
+	return b.assembledFrom(r, delta), r.nonce
+}
+
+// assembledFrom assembles a response that was read.
+func (b *bridge) assembledFrom(r *response, delta bool) *assembled {
 	nonceBytes := nonceRoom(r.nonce)
 	most := b.maxMessage - nonceBytes - len(r.version) - len(r.typeURL) - len(b.identifier) - 48
 	bad := r.convert(b.bodies.of, most, delta, b.maxMessage, b.skipBad)
@@ -157,7 +176,7 @@ func (b *bridge) assemble(text []byte, delta bool) (*assembled, string, error) {
 	if len(bad) > 0 && !b.skipBad {
 		a.why = bad[0].Error()
 		a.refusal = "the gRPC bridge can't convert " + a.why
-		return a, r.nonce, nil
+		return a
 	}
 	a.bodies = r.bodies(delta, most, b.identifier)
 	a.length = a.size() + nonceBytes
@@ -167,7 +186,7 @@ func (b *bridge) assemble(text []byte, delta bool) (*assembled, string, error) {
 			"control plane %d", a.length, b.maxMessage, maxText)
 		a.refusal = "the gRPC bridge refuses it: " + a.why
 	}
-	return a, r.nonce, nil
+	return a
 }
 
 // bodies are the messages of a converted response as protobuf, without the nonce. Of the incremental variant they are as
@@ -280,6 +299,21 @@ func (b *bridge) assembledOf(text []byte, delta bool) (*assembled, string, error
 	}
 	made, err := b.shared.of(key, assemble)
 	return made, nonce, err
+}
+
+// assembledNow is what clients are sent of a short response's text, and its nonce, where that takes no conversion. It is nil for all
+// others.
+func (b *bridge) assembledNow(text []byte, delta bool) (made *assembled, nonce string) {
+	cut, isCut := b.alikes.cut(text, delta)
+	if isCut {
+		if made := cut.made(); made != nil {
+			return made, string(cut.nonce)
+		}
+	}
+	if made, nonce = b.assembleReady(text, delta); made != nil && isCut {
+		cut.keep(made)
+	}
+	return made, nonce
 }
 
 // appendText appends a field that is a text, unless it is empty.

@@ -327,7 +327,7 @@ func sizeOf(names []string) (size int) {
 }
 
 // quick carries short responses with which bytes begin, as long as that needs no waiting, and answers how many bytes they have.
-// What is made of each has to be there, as another stream was told alike, and gRPC has to have room for it.
+// Its resources have to be converted, as where another stream was told them, and gRPC has to have room for it.
 func (s *stream) quick(bytes []byte, to *batch) (done int) {
 	s.bridge.reach.reads(len(bytes), nil, &s.came)
 	for {
@@ -344,12 +344,8 @@ func (s *stream) isQuick(text []byte, to *batch) bool {
 	if s.quota == nil || atomic.LoadInt32(s.quota) <= 0 {
 		return false
 	}
-	c, ok := s.bridge.alikes.cut(text, s.delta)
-	if !ok {
-		return false
-	}
-	a := c.made()
-	if a == nil || !s.isPlain(a.bodies[0]) {
+	a, nonce := s.bridge.assembledNow(text, s.delta)
+	if a == nil || a.why != "" || len(a.bad) > 0 || len(a.bodies) != 1 || !s.isPlain(a.bodies[0]) {
 		return false
 	}
 	select {
@@ -357,7 +353,6 @@ func (s *stream) isQuick(text []byte, to *batch) bool {
 	default:
 		return false
 	}
-	nonce := string(c.nonce)
 	s.tells(a, nonce, len(text))
 	to.all = append(to.all, sending{s, a.bodies[0], nonce})
 	return true
