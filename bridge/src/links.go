@@ -388,8 +388,9 @@ func (o *loop) take(l *link, events uint32) {
 		return
 	}
 	done := l.quick(o.buffer[:n], &o.batch)
-	if full := n == len(o.buffer) || events&eventEnd != 0; err != nil || full || done < n {
-		l.lend(o.buffer[done:n], full)
+	more := err != nil || n == len(o.buffer) || events&eventEnd != 0
+	if more || done < n {
+		l.lend(o.buffer[done:n], more)
 	}
 }
 
