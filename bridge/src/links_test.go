@@ -335,12 +335,7 @@ func TestASlowClientOfShortResponses(t *testing.T) {
 	slow.ends(codes.Unavailable, "closed the stream")
 }
 
-func TestProcessors(t *testing.T) {
-	for all, want := range map[int]int{1: 1, 2: 2, 3: 2, 4: 2, 5: 2, 6: 3, 16: 8} {
-		if n := processors(all); n != want {
-			t.Error(all, n)
-		}
-	}
+func TestHowManyLoopsThereAre(t *testing.T) {
 	if loopsOf(1) != 1 || loopsOf(4) != 1 || loopsOf(5) != 2 {
 		t.Error(loopsOf(1), loopsOf(4), loopsOf(5))
 	}

@@ -11,7 +11,6 @@ import (
 	"net/http"
 	"os"
 	"os/signal"
-	"runtime"
 	"syscall"
 	"time"
 
@@ -50,9 +49,6 @@ type options struct {
 
 func main() {
 	tell, code := newTeller(os.Stderr), 0
-	if os.Getenv("GOMAXPROCS") == "" {
-		runtime.GOMAXPROCS(processors(runtime.NumCPU()))
-	}
 	// (what the package of gRPC has to say would be written without a bound, and waited for)
 	grpclog.SetLoggerV2(grpclog.NewLoggerV2(io.Discard, io.Discard, io.Discard))
 	o, err := readOptions(os.Args[1:], os.Stdout)
@@ -69,18 +65,6 @@ func main() {
 	}
 	tell.close()
 	os.Exit(code)
-}
-
-// processors are how many of so many processors the bridge takes. The control plane needs the others, and where it tells streams one
-// by one, threads that look for work on each take longer than the work.
-func processors(all int) int {
-	switch {
-	case all <= 2:
-		return all
-	case all <= 4:
-		return 2
-	}
-	return all / 2
 }
 
 // readOptions reads the words of the command line. Help goes to where it was asked for.
