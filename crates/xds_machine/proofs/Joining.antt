@@ -11,7 +11,7 @@ use Rattle.xds_resource.specs.declared.refusal.Refusal.TheVariants.{OutOfMemory}
 use Rattle.xds_machine.specs.declared.wires.Bound.{Bound}
 use Rattle.xds_machine.specs.declared.wires.Wires.{Wires}
 use Rattle.xds_machine.proofs.Wired.{some_same}
-use Rattle.xds_machine.specs.Wiring.{given, Adds, AllChange, Gains, Joins, IsAlone, Stays, Tells, AreJoined, IsWired}
+use Rattle.xds_machine.specs.Wiring.{given, Adds, AllChange, Gains, Joins, IsAlone, Stays, Tells, AreJoined, AreOrdered, IsWired}
 
 -- a pair that comes before this one
 abbrev pub IsBefore : ℕ → ℕ → ℕ → ℕ → Type 0
@@ -347,10 +347,6 @@ module _ {L C S T : Type 0} where
       ∙ ap (λ ls. x.sockets ∷ ls) (same_sockets xs ys (record { count = omega (arith, stays.count); each = λ k. stays.each (suc k) }))
 
 module _ {L I C S T : Type 0} where
-  -- the replicas so far, and the sockets that are left
-  abbrev pub IsBegun : List L → List L → Wires L I C S T → Type 0
-  IsBegun all rest w = (map (λ b. b.sockets) w.replicas.items ++ rest ≡ all) × (length w.senders.items ≡ length w.replicas.items)
-
   -- a replica that is added is joined to no other
   pub alone_after : {E D : Type 0} (x : L) (channel : Result (I × C) E) (r : Result (Unit {0}) D) (old new : Wires L I C S T) → All IsAlone old.replicas.items
       → OnOk r (IsOk channel) → OnOk r (IfOk channel (λ ends. Adds x ends.0 ends.1 old new)) → OnErr r (new.replicas.items ≡ old.replicas.items) → All IsAlone new.replicas.items
@@ -358,36 +354,61 @@ module _ {L I C S T : Type 0} where
   alone_after x (Err e) (Ok u) old new alone ok adds err = absurd cc
   alone_after x channel (Err e) old new alone ok adds err = subst (All IsAlone) (sym err) alone
 
+module _ {L I C S T : Type 0} (ordered : I → C → Type 0) where
+  -- one more with its sender
+  ordered_more : (senders : List I) (replicas : List (Bound L C S T)) (s : I) (b : Bound L C S T) → AreOrdered ordered senders replicas → ordered s b.changes → AreOrdered ordered (senders ++ s ∷ []) (replicas ++ b ∷ [])
+  ordered_more [] [] s b so is = (is, tt)
+  ordered_more [] (y ∷ ys) s b so is = absurd so
+  ordered_more (x ∷ xs) [] s b so is = absurd so
+  ordered_more (x ∷ xs) (y ∷ ys) s b so is = (so.0, ordered_more xs ys s b so.1 is)
+
+  -- and they stay so where replicas get ends
+  ordered_still : (senders : List I) (old new : List (Bound L C S T)) → AllChange (λ _. Stays) old new → AreOrdered ordered senders old → AreOrdered ordered senders new
+  ordered_still [] [] [] stays so = tt
+  ordered_still [] [] (z ∷ zs) stays so = absurd (omega (arith, stays.count))
+  ordered_still [] (y ∷ ys) new stays so = absurd so
+  ordered_still (x ∷ xs) [] new stays so = absurd so
+  ordered_still (x ∷ xs) (y ∷ ys) [] stays so = absurd (omega (arith, stays.count))
+  ordered_still (x ∷ xs) (y ∷ ys) (z ∷ zs) stays so =
+      (subst (ordered x) (sym (stays.each 0 y z refl refl).1) so.0, ordered_still xs ys zs (record { count = omega (arith, stays.count); each = λ k. stays.each (suc k) }) so.1)
+
+  -- the replicas so far, and the sockets that are left
+  abbrev pub IsBegun : List L → List L → Wires L I C S T → Type 0
+  IsBegun all rest w = (map (λ b. b.sockets) w.replicas.items ++ rest ≡ all) × (length w.senders.items ≡ length w.replicas.items) × AreOrdered ordered w.senders.items w.replicas.items
+
   -- and the replicas so far are one more
   pub begun_after : {E D : Type 0} (x : L) (all left rest : List L) → left ≡ x ∷ rest → (channel : Result (I × C) E) (done r both : Result (Unit {0}) D) (old new : Wires L I C S T) → OnOk done (IsBegun all left old)
-      → OnOk r (IsOk channel) → OnOk r (IfOk channel (λ ends. Adds x ends.0 ends.1 old new)) → both ≡ result_and done r → OnOk both (IsBegun all rest new)
-  begun_after x all left rest step (Ok ends) (Ok u) (Ok v) both old new begun ok adds is = subst (λ b. OnOk b (IsBegun all rest new)) (sym is) (
+      → IfOk channel (λ ends. ordered ends.0 ends.1) → OnOk r (IsOk channel) → OnOk r (IfOk channel (λ ends. Adds x ends.0 ends.1 old new)) → both ≡ result_and done r → OnOk both (IsBegun all rest new)
+  begun_after x all left rest step (Ok ends) (Ok u) (Ok v) both old new begun pair ok adds is = subst (λ b. OnOk b (IsBegun all rest new)) (sym is) (
     ap (λ rs. map (λ b. b.sockets) rs ++ rest) adds.replicas
         ∙ ap (λ xs. xs ++ rest) (map-append (λ b. b.sockets) old.replicas.items (adds.replica ∷ []) ∙ ap (λ s. map (λ b. b.sockets) old.replicas.items ++ s ∷ []) adds.sockets)
         ∙ append_assoc (map (λ b. b.sockets) old.replicas.items) (x ∷ []) rest ∙ ap (λ xs. map (λ b. b.sockets) old.replicas.items ++ xs) (sym step) ∙ begun.0,
     ap length adds.senders ∙ length-append old.senders.items (ends.0 ∷ []) ∙ ap (λ n. n + 1) begun.1 ∙ sym (length-append old.replicas.items (adds.replica ∷ [])) ∙ sym (ap length adds.replicas),
+    subst (λ ss. AreOrdered ordered ss new.replicas.items) (sym adds.senders)
+        (subst (AreOrdered ordered (old.senders.items ++ ends.0 ∷ [])) (sym adds.replicas) (ordered_more old.senders.items old.replicas.items ends.0 adds.replica begun.2 (subst (ordered ends.0) (sym adds.changes) pair))),
   )
-  begun_after x all left rest step (Err e) (Ok u) (Ok v) both old new begun ok adds is = absurd cc
-  begun_after x all left rest step channel (Ok u) (Err e) both old new begun ok adds is = subst (λ b. OnOk b (IsBegun all rest new)) (sym is) tt
-  begun_after x all left rest step channel (Err e) r both old new begun ok adds is = subst (λ b. OnOk b (IsBegun all rest new)) (sym is) tt
+  begun_after x all left rest step (Err e) (Ok u) (Ok v) both old new begun pair ok adds is = absurd cc
+  begun_after x all left rest step channel (Ok u) (Err e) both old new begun pair ok adds is = subst (λ b. OnOk b (IsBegun all rest new)) (sym is) tt
+  begun_after x all left rest step channel (Err e) r both old new begun pair ok adds is = subst (λ b. OnOk b (IsBegun all rest new)) (sym is) tt
 
   -- all replicas, once they are joined
   pub wired_after : {D : Type 0} (linked : S → T → Type 0) (all rest : List L) (done joined both : Result (Unit {0}) D) (kept : Result (Wires L I C S T) D) (old new : Wires L I C S T) → length rest ≡ 0 → OnOk done (IsBegun all rest old)
       → OnOk joined (new.senders ≡ old.senders) → OnOk joined (AllChange (λ _. Stays) old.replicas.items new.replicas.items) → OnOk joined (AreJoined linked new.replicas.items)
-      → both ≡ result_and done joined → OnOk both (kept ≡ Ok new) → IfErr both (λ e. kept ≡ Err e) → IfOk kept (IsWired linked all)
+      → both ≡ result_and done joined → OnOk both (kept ≡ Ok new) → IfErr both (λ e. kept ≡ Err e) → IfOk kept (IsWired ordered linked all)
   wired_after linked all rest (Ok u) (Ok v) (Ok w) kept old new none begun senders stay are is ok err =
       let sockets = same_sockets old.replicas.items new.replicas.items stay ∙ sym (append-nil (map (λ b. b.sockets) old.replicas.items)) ∙ ap (λ xs. map (λ b. b.sockets) old.replicas.items ++ xs) (sym (is_empty rest none)) ∙ begun.0 in
-      subst (λ k. IfOk k (IsWired linked all)) (sym ok)
+      subst (λ k. IfOk k (IsWired ordered linked all)) (sym ok)
       (record {
         sockets = sockets;
         senders = ap (λ s. length s.items) senders ∙ begun.1 ∙ sym stay.count ∙ sym (length-map new.replicas.items (λ b. b.sockets)) ∙ ap length sockets;
+        ordered_by = subst (λ ss. AreOrdered ordered ss new.replicas.items) (sym (ap (λ s. s.items) senders)) (ordered_still old.senders.items old.replicas.items new.replicas.items stay begun.2);
         joined = are;
       })
   wired_after linked all rest (Ok u) (Ok v) (Err w) kept old new none begun senders stay are is ok err = absurd cc
   wired_after linked all rest (Ok u) (Err e) both kept old new none begun senders stay are is ok err =
-      subst (λ k. IfOk k (IsWired linked all)) (sym (subst (λ b. IfErr b (λ e. kept ≡ Err e)) is err)) tt
+      subst (λ k. IfOk k (IsWired ordered linked all)) (sym (subst (λ b. IfErr b (λ e. kept ≡ Err e)) is err)) tt
   wired_after linked all rest (Err e) joined both kept old new none begun senders stay are is ok err =
-      subst (λ k. IfOk k (IsWired linked all)) (sym (subst (λ b. IfErr b (λ e. kept ≡ Err e)) is err)) tt
+      subst (λ k. IfOk k (IsWired ordered linked all)) (sym (subst (λ b. IfErr b (λ e. kept ≡ Err e)) is err)) tt
 
 -- the first refusal of two is one of theirs
 pub still_refused : (done r both : Result (Unit {0}) Refusal) → IfErr done (λ e. e ≡ OutOfMemory) → IfErr r (λ e. e ≡ OutOfMemory) → both ≡ result_and done r → IfErr both (λ e. e ≡ OutOfMemory)

@@ -10,8 +10,10 @@
 --     Stays         a replica is started with what it was to be started with, but for its ends
 --     Tells         a replica has an end by which it tells another
 --     AreJoined     each replica tells each other, each end leads to another replica, and there is one for each
+--     AreOrdered    each replica has the sender of its place, by which its changes come
 --     IsWired       a replica for each of these sockets, in order, each with its sender, and joined to each other
 use Rattle.std.specs.Prelude.{◌≡◌, ◌≢◌, ◌==◌, ◌+◌, ℕ, List, [], ◌∷◌, ◌++◌, length, map, slice_get, Bool, Some, if◌then◌else◌, Contains}
+use Rattle.std.specs.List.{AllZip}
 use Rattle.xds_machine.specs.declared.wires.Bound.{Bound}
 use Rattle.xds_machine.specs.declared.wires.Wires.{Wires}
 
@@ -82,8 +84,13 @@ module _ {L C S T : Type 0} where
         → (i : ℕ) × (b : Bound L C S T) × (s : S) × (i ≢ j) × (slice_get replicas i ≡ Some b) × Contains b.sends.items s × linked s t
     pub once : (i : ℕ) (b : Bound L C S T) → slice_get replicas i ≡ Some b → (length b.sends.items + 1 ≡ length replicas) × (length b.takes.items + 1 ≡ length replicas)
 
+-- each replica has the sender of its place, by which its changes come
+abbrev pub AreOrdered : {L I C S T : Type 0} → (I → C → Type 0) → List I → List (Bound L C S T) → Type 0
+AreOrdered ordered senders replicas = AllZip (λ s b. ordered s b.changes) senders replicas
+
 -- a replica for each of these sockets, in order, each with its sender, and joined to each other
-pub record IsWired {L I C S T : Type 0} (linked : S → T → Type 0) (all : List L) (w : Wires L I C S T) : Type 0 where
+pub record IsWired {L I C S T : Type 0} (ordered : I → C → Type 0) (linked : S → T → Type 0) (all : List L) (w : Wires L I C S T) : Type 0 where
   pub sockets : map (λ b. b.sockets) w.replicas.items ≡ all
   pub senders : length w.senders.items ≡ length all
+  pub ordered_by : AreOrdered ordered w.senders.items w.replicas.items
   pub joined : AreJoined linked w.replicas.items

@@ -1,5 +1,5 @@
 // What replicas are joined by, whatever it is: lists that are made and taken apart replica by replica.
-ghost use Rattle.std.specs.Prelude.{◌≡◌, ◌==◌, ◌↔◌, [], All, OnOk, OnErr, IfOk, IfErr, IsOk, Ok, Err};
+ghost use Rattle.std.specs.Prelude.{◌≡◌, ◌==◌, ◌↔◌, ◌⊎◌, [], All, OnOk, OnErr, IfOk, IfErr, IsOk, Ok, Err};
 ghost use Rattle.std.specs.Result.{result_and};
 ghost use Rattle.xds_resource.specs.declared.refusal.Refusal.TheVariants.{OutOfMemory};
 ghost use Rattle.xds_machine.specs.Wiring.{Adds, AllChange, GainsSend, GainsTake, Joins, IsAlone, Stays, AreJoined, IsWired};
@@ -10,12 +10,17 @@ use xds_resource::Refusal;
 /// What makes the channels that replicas are joined by.
 pub trait Links<I, C, S, T> {
     ghost use Rattle.std.specs.Prelude.{IfOk};
+    ghost use Rattle.std.specs.Prelude.{⊤};
 
     // Which ends belong together.
     ghost linked: { S → T → Type 0 };
 
+    // Which sender of changes belongs to which place where they come from.
+    ghost ordered: { I → C → Type 0 } = { λ _ _. ⊤ };
+
     /// The ends of a new channel for changes of the input.
-    fn orders(&self) -> Result<(I, C), AllocError>;
+    fn orders(&self) -> Result<(I, C), AllocError>
+        ensures { IfOk result (λ ends. ordered ends.0 ends.1) };
 
     /// New ends by which one replica tells another.
     fn ends(&self) -> Result<(S, T), AllocError>
@@ -158,7 +163,7 @@ pub fn wired<L: Drop, I: Drop, C: Drop, S: Drop, T: Drop, M: Links<I, C, S, T>>(
     sockets: Vec<L>,
     links: &M,
 ) -> Result<Wires<L, I, C, S, T>, Refusal>
-    ensures ok { IfOk result (IsWired M.linked sockets.items) }
+    ensures ok { IfOk result (IsWired M.ordered M.linked sockets.items) }
     ensures refused { IfErr result (λ e. e ≡ OutOfMemory) }
 {
     let mut wires = Wires::new(alloc);
@@ -175,7 +180,8 @@ pub fn crossed<O: Drop, I: Drop, P: Drop, J: Drop>(
     one: Result<(O, I), AllocError>,
     other: Result<(P, J), AllocError>,
 ) -> Result<((O, J), (I, P)), AllocError>
-    ensures { IfOk result (λ r. (one ≡ Ok (r.0.0, r.1.0)) × (other ≡ Ok (r.1.1, r.0.1))) }
+    ensures ok { IfOk result (λ r. (one ≡ Ok (r.0.0, r.1.0)) × (other ≡ Ok (r.1.1, r.0.1))) }
+    ensures refused { IfErr result (λ e. (one ≡ Err e) ⊎ (other ≡ Err e)) }
 {
     let (out, into) = one?;
     let (back, receipts) = other?;

@@ -5,6 +5,7 @@
 --     TellsLine      a line is told, or that there was no memory for it
 --     TellsEnd       what is told of how a server ended
 --     status_of      the status of a server that ended so, or couldn't begin
+--     noted          an event as it is told: as a line, or as JSON
 --     first_end      what the end was told to be first stays
 --     counted_end    the end once a stream more has ended, of those that are still to end
 --     most_notes     as many notes as wait to be told, at most
@@ -16,8 +17,9 @@
 --     tells_missed   how many notes aren't told is told now
 --     MissedOrEnd    what comes next where no note waits
 --     IsNext         what comes next: what waits, in order; then how many notes aren't told; then the end
-use Rattle.std.specs.Prelude.{◌≡◌, ◌⊎◌, ℕ, List, ◌∷◌, [], ◌++◌, ◌-◌, ◌==◌, Bool, true, false, if◌then◌else◌, nat_lt, length, Option, Some, None, Result, Ok, Err, codes, decimal}
+use Rattle.std.specs.Prelude.{◌≡◌, ◌⊎◌, ℕ, List, ◌∷◌, [], ◌++◌, ◌-◌, ◌==◌, Bool, true, false, if◌then◌else◌, nat_lt, length, Option, Some, None, Result, Ok, Err, String, codes, decimal}
 use Rattle.std.specs.Option.{option_map}
+use Rattle.std.specs.declared.alloc.Global.{Global}
 use Rattle.xds_resource.specs.declared.refusal.Refusal.{Refusal}
 use Rattle.xds_resource.specs.declared.refusal.Refusal.TheVariants.{OutOfMemory}
 use Rattle.xds_resource.specs.Refusals.{number_of, name_of}
@@ -26,7 +28,9 @@ use Rattle.xds_notes.specs.declared.ending.End.{End}
 use Rattle.xds_notes.specs.declared.ending.End.TheVariants.{Streams, Stopped, Line, Refused}
 use Rattle.xds_notes.specs.declared.ending.Next.{Next}
 use Rattle.xds_notes.specs.declared.note.Note.{Note}
-use Rattle.xds_notes.specs.declared.note.Note.TheVariants.{Missed}
+use Rattle.xds_notes.specs.declared.note.Note.TheVariants.{Event, Json, Missed}
+use Rattle.xds_notes.specs.declared.ending.Telling.{Telling}
+use Rattle.xds_stats.specs.declared.log_event.LogEvent.{LogEvent}
 use Rattle.xds_stats.specs.Boards.{more}
 
 -- the line of a refusal
@@ -61,6 +65,10 @@ status_of (Ok Stopped) = 0
 status_of (Ok (Line line refusal)) = 1
 status_of (Ok (Refused refusal)) = 1
 status_of (Err refusal) = 1
+
+-- an event as it is told: as a line, or as JSON
+abbrev pub noted : Telling → String Global → LogEvent → Note
+noted telling time event = if telling.json then Json time event else Event time event
 
 -- what the end was told to be first stays
 abbrev pub first_end : Option End → End → Option End

@@ -9,7 +9,13 @@
 --     recording_line  the line of a recording that ended by a refusal
 --     note_line      the line of a note
 --     stamp_line     the line of a line that was made a write, which has this stamp
-use Rattle.std.specs.Prelude.{ℕ, List, ◌++◌, Option, Some, None, codes, decimal, string_bytes}
+--     Refusals       lines that were refused, by their numbers
+--     most_recent    as many of them as are kept
+--     still_kept     those that stay where one more is refused
+--     IsKeptBehind   one more was refused: it stands behind the last ones, or there was no memory for it
+--     recent_before  the lines of them, the last one first, and this text behind them
+--     recent_text    the lines of them, the last one first
+use Rattle.std.specs.Prelude.{◌≡◌, ◌⊎◌, ℕ, List, [], ◌∷◌, ◌++◌, length, drop, nat_le, if◌then◌else◌, Option, Some, None, codes, decimal, string_bytes}
 use Rattle.xds_resource.specs.declared.refusal.Refusal.{Refusal}
 use Rattle.xds_resource.specs.Refusals.{number_of, name_of}
 use Rattle.xds_causes.specs.declared.cause.Cause.{Cause}
@@ -72,3 +78,28 @@ note_line (Said text) = said_line (string_bytes text)
 abbrev pub stamp_line : ℕ → ℕ → ℕ → List ℕ
 stamp_line line counter writer =
     codes "line " ++ (decimal line ++ (codes ": " ++ (decimal counter ++ (codes "-" ++ (decimal writer ++ codes "\n")))))
+
+-- lines that were refused, by their numbers
+abbrev pub Refusals : Type 0
+Refusals = List (ℕ × Fault)
+
+-- as many of them as are kept
+abbrev pub most_recent : ℕ
+most_recent = 8
+
+-- those that stay where one more is refused
+abbrev pub still_kept : Refusals → Refusals
+still_kept lines = if nat_le most_recent (length lines) then drop 1 lines else lines
+
+-- one more was refused: it stands behind the last ones, or there was no memory for it
+abbrev pub IsKeptBehind : Refusals → Refusals → ℕ → Fault → Type 0
+IsKeptBehind before after line fault = (after ≡ still_kept before ++ (line, fault) ∷ []) ⊎ (after ≡ still_kept before)
+
+-- the lines of them, the last one first, and this text behind them
+abbrev pub recent_before : Refusals → List ℕ → List ℕ
+recent_before [] text = text
+recent_before (r ∷ rs) text = recent_before rs (refused_line r.0 r.1 ++ text)
+
+-- the lines of them, the last one first
+abbrev pub recent_text : Refusals → List ℕ
+recent_text lines = recent_before lines []

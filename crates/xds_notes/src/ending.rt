@@ -1,5 +1,6 @@
 // How a server ends, and what is told until then: by whichever thread comes to it, and waited for by the first thread.
 ghost use Rattle.std.specs.Prelude.{◌≡◌};
+ghost use Rattle.xds_notes.specs.Endings.{noted};
 
 use crate::fault::Fault;
 use crate::note::Note;
@@ -88,9 +89,29 @@ impl Drop for State {
 }
 
 impl State {
-    ghost use Rattle.std.specs.Prelude.{◌≡◌, ◌-◌};
+    ghost use Rattle.std.specs.Prelude.{◌≡◌, ◌-◌, [], None, false};
     ghost use Rattle.std.specs.Option.{option_map};
     ghost use Rattle.xds_notes.specs.Endings.{first_end, counted_end, has_place, counts_missed, Adds, TakesNote, Announces, IsNext};
+
+    // Nothing has happened, and so many streams are to end, where that is said.
+    fn new(alloc: Global, streams: Option<u16>) -> State
+        ensures left { result.left ≡ streams }
+        ensures end { result.end ≡ None }
+        ensures told { (result.notes.items ≡ []) × (result.missed ≡ 0) }
+        ensures rest { (result.is_closed ≡ false) × (result.is_told ≡ false) × (result.writing ≡ 0) × (result.is_held ≡ false) × (result.is_asked ≡ false) }
+    {
+        State {
+            left: streams,
+            end: None,
+            notes: VecDeque::new(alloc),
+            missed: 0,
+            is_closed: false,
+            is_told: false,
+            writing: 0,
+            is_held: false,
+            is_asked: false,
+        }
+    }
 
     // A stream more has ended.
     fn count(&mut self)
@@ -243,17 +264,7 @@ impl Ending {
     {
         Ending {
             alloc,
-            state: Mutex::new(State {
-                left: streams,
-                end: None,
-                notes: VecDeque::new(alloc),
-                missed: 0,
-                is_closed: false,
-                is_told: false,
-                writing: 0,
-                is_held: false,
-                is_asked: false,
-            }),
+            state: Mutex::new(State::new(alloc, streams)),
             told: Condvar::new(),
             room: Condvar::new(),
             quiet: Condvar::new(),
@@ -313,7 +324,9 @@ impl Ending {
     }
 
     // An event as it is told.
-    fn noted(&self, time: String, event: LogEvent) -> Note {
+    fn noted(&self, time: String, event: LogEvent) -> Note
+        ensures { result ≡ noted self.now.telling time event }
+    {
         if self.telling.json {
             Note::Json(time, event)
         } else {
