@@ -1,6 +1,11 @@
 // Puts that are refused, where a server is asked for that: those by which the whole response of their type would be too long for a frame.
-ghost use Rattle.std.specs.Prelude.{◌≡◌, IfOk};
-ghost use Rattle.xds_replicas.specs.Fitting.{put_fault};
+ghost use Rattle.std.specs.Prelude.{◌≡◌, ◌++◌, codes, IfOk, string_bytes};
+ghost use Rattle.std.specs.Option.{option_or};
+ghost use Rattle.xds_core.specs.Counts.{counts_of};
+ghost use Rattle.xds_resource.specs.Any.{named_body, resource_type};
+ghost use Rattle.xds_replicas.specs.Fitting.{grown_fault, looked_write, put_fault, resource_fault, start_fault};
+ghost use Rattle.xds_stats.specs.Sizes.{long_text};
+ghost use Rattle.xds_replicas.specs.Lines.{refusal_behind, refused_text};
 
 use crate::replica::make_change;
 use crate::storing::changed_since;
@@ -10,7 +15,7 @@ use xds_changes::change::Change;
 use xds_core::{Event, Marks};
 use xds_message::Batch;
 use xds_monitor::{Lookout, Served};
-use xds_notes::Fault;
+use xds_notes::{Fault, LongResponse};
 use xds_resource::{AnyResource, Groups, Refusal, Resource, ResourceType, Stamp, TypeName, Write};
 use xds_stats::{beyond_by, long_text, longest_bytes, refused_bytes};
 
@@ -100,7 +105,9 @@ fn put_fault(
     marks: Marks,
     held: &Batch,
     resource: &AnyResource,
-) -> Result<Option<Fault>, Refusal> {
+) -> Result<Option<Fault>, Refusal>
+    ensures { IfOk result (λ o. o ≡ resource_fault number (counts_of marks) held.now (resource_type resource.now) (named_body resource.now)) }
+{
     match resource {
         AnyResource::Cluster(it) => {
             put_over(alloc, number, marks.cluster, held.cluster.as_slice(), it)
@@ -124,7 +131,9 @@ fn put_over<T: ResourceType>(
     changes: u64,
     held: &[Write<T>],
     resource: &Resource<T>,
-) -> Result<Option<Fault>, Refusal> {
+) -> Result<Option<Fault>, Refusal>
+    ensures { IfOk result (λ o. o ≡ put_fault T.TYPE number changes (looked_write resource.now) held.now) }
+{
     let put = write_of(alloc, resource)?;
     let fault = fault_over(alloc, number, changes, held, &put);
     drop(put);
@@ -132,7 +141,9 @@ fn put_over<T: ResourceType>(
 }
 
 // A write that puts a resource. Its stamp and its groups count for nothing.
-fn write_of<T: ResourceType>(alloc: Global, resource: &Resource<T>) -> Result<Write<T>, Refusal> {
+pub fn write_of<T: ResourceType>(alloc: Global, resource: &Resource<T>) -> Result<Write<T>, Refusal>
+    ensures { IfOk result (λ w. w ≡ looked_write resource.now) }
+{
     let stamp = Stamp {
         counter: 1,
         writer: 1,
@@ -311,7 +322,9 @@ pub fn start_fault(
     number: u16,
     before: &Batch,
     after: &Batch,
-) -> Result<Option<Fault>, Refusal> {
+) -> Result<Option<Fault>, Refusal>
+    ensures { IfOk result (λ o. o ≡ start_fault number before.now after.now) }
+{
     let cluster = grown_fault(
         alloc,
         number,
@@ -346,7 +359,9 @@ pub fn start_fault(
     Ok(either(either(first, route), secret))
 }
 
-fn either(one: Option<Fault>, other: Option<Fault>) -> Option<Fault> {
+fn either(one: Option<Fault>, other: Option<Fault>) -> Option<Fault>
+    ensures { result ≡ option_or one other }
+{
     match one {
         Some(fault) => Some(fault),
         None => other,
@@ -359,7 +374,9 @@ fn grown_fault<T: ResourceType>(
     number: u16,
     before: &[Write<T>],
     after: &[Write<T>],
-) -> Result<Option<Fault>, Refusal> {
+) -> Result<Option<Fault>, Refusal>
+    ensures { IfOk result (λ o. o ≡ grown_fault T.TYPE number before.now after.now) }
+{
     let changes = after.len() as u64;
     let had = longest_bytes(alloc, number, changes, before)?;
     let has = longest_bytes(alloc, number, changes, after)?;
@@ -370,15 +387,32 @@ fn grown_fault<T: ResourceType>(
 }
 
 /// A refusal behind what it is of, with what is known of it, without the end of a line.
-pub fn refused_text(alloc: Global, of: &str, fault: Fault) -> Result<String, Refusal> {
-    let number = fault.refusal.number();
-    let name = fault.refusal.name();
+pub fn refused_text(alloc: Global, of: &str, fault: Fault) -> Result<String, Refusal>
+    ensures { IfOk result (λ t. string_bytes t ≡ refused_text of.now fault) }
+{
+    let text = refusal_behind(alloc, of, fault.refusal)?;
     match fault.long {
-        Some(long) => {
-            let text = long_text(alloc, long.kind, long.bytes)?;
-            let text = text.as_str();
-            Ok(format!(in alloc; "{of}: {number} {name}: {text}")?)
-        }
-        None => Ok(format!(in alloc; "{of}: {number} {name}")?),
+        Some(long) => long_behind(alloc, text, long),
+        None => Ok(text),
     }
+}
+
+// A refusal behind what it is of.
+fn refusal_behind(alloc: Global, of: &str, refusal: Refusal) -> Result<String, Refusal>
+    ensures { IfOk result (λ t. string_bytes t ≡ refusal_behind of.now refusal) }
+{
+    let number = refusal.number();
+    let name = refusal.name();
+    Ok(format!(in alloc; "{of}: {number} {name}")?)
+}
+
+// How long the response would be, behind a refusal.
+fn long_behind(alloc: Global, text: String, long: LongResponse) -> Result<String, Refusal>
+    ensures { IfOk result (λ t. string_bytes t ≡ string_bytes text ++ (codes ": " ++ long_text long.kind long.bytes)) }
+{
+    let why = long_text(alloc, long.kind, long.bytes)?;
+    let mut text = text;
+    text.push_str(": ")?;
+    text.push_str(why.as_str())?;
+    Ok(text)
 }

@@ -1,6 +1,7 @@
 // A body of changes that are looked at alone, or made together, at an operator's port.
-ghost use Rattle.std.specs.Prelude.{◌≡◌, string_bytes, IfOk};
+ghost use Rattle.std.specs.Prelude.{◌≡◌, None, map, slice_get, string_bytes, IfOk};
 ghost use Rattle.xds_replicas.specs.Lines.{unstored_line};
+ghost use Rattle.xds_replicas.specs.Jointly.{is_good, next_places, none_told, stored_line};
 
 use crate::linting::{copy_of, lines_after};
 use crossbeam_channel::RecvTimeoutError;
@@ -73,7 +74,72 @@ pub enum Step {
     Done,
 }
 
+// How many changes of a body were made, or would be, how many weren't, and the lines of them.
+struct Telling {
+    good: u64,
+    bad: u64,
+    text: String,
+}
+
+// Written out: docs/PROVING.md, "Drops".
+impl Drop for Telling {
+    fn drop(self) {
+        let Telling {
+            good: _,
+            bad: _,
+            text: _,
+        } = self;
+    }
+}
+
+impl Telling {
+    ghost use Rattle.std.specs.Prelude.{◌≡◌, ◌++◌, [], string_bytes, IfOk, OnOk};
+    ghost use Rattle.xds_replicas.specs.Jointly.{told_more, told_so_far};
+
+    fn new(alloc: Global) -> Telling
+        ensures { told_so_far result ≡ record { good = 0; bad = 0; text = [] } }
+    {
+        Telling {
+            good: 0,
+            bad: 0,
+            text: String::new(alloc),
+        }
+    }
+
+    // A line more.
+    fn add(&mut self, one: (bool, String)) -> Result<(), Refusal>
+        ensures { OnOk result (told_so_far self.new ≡ told_more (told_so_far self.old) (one.0, string_bytes one.1)) }
+    {
+        let (is_good, line) = one;
+        if is_good {
+            self.good = self.good.saturating_add(1);
+        } else {
+            self.bad = self.bad.saturating_add(1);
+        }
+        Ok(self.text.push_str(line.as_str())?)
+    }
+
+    // The lines, and this behind them.
+    fn into_text(self, behind: &str) -> Result<String, Refusal>
+        ensures { IfOk result (λ t. string_bytes t ≡ string_bytes self.text ++ behind.now) }
+    {
+        let Telling {
+            good: _,
+            bad: _,
+            text,
+        } = self;
+        let mut text = text;
+        text.push_str(behind)?;
+        Ok(text)
+    }
+}
+
 impl Joint {
+    ghost use Rattle.std.specs.Prelude.{◌≡◌, ◌++◌, [], false, true, is_err, length, map, nat_eq, string_bytes, IfOk, OnOk};
+    ghost use Rattle.std.specs.List.{list_any};
+    ghost use Rattle.xds_changes.specs.Together.{changes_status};
+    ghost use Rattle.xds_replicas.specs.Jointly.{are_any_mixed, made_at, next_made, next_places, one_told, places_after, told_in, told_more, told_so_far};
+
     /// Of so many replicas, of which no line has come.
     pub fn new(alloc: Global, replicas: usize, is_tried: bool) -> Result<Joint, Refusal> {
         let mut changes = Vec::new(alloc);
@@ -146,18 +212,26 @@ impl Joint {
     }
 
     /// Whether the lines are of several replicas.
-    pub fn are_mixed(&self) -> bool {
-        let mut count = 0usize;
+    pub fn are_mixed(&self) -> bool
+        ensures { result ≡ are_any_mixed false (map (λ v. v.items) self.now.changes.items) }
+    {
+        let mut is_one = false;
         for changes in &self.changes {
-            if !changes.is_empty() {
-                count = count.saturating_add(1);
+            if changes.is_empty() {
+                continue;
             }
+            if is_one {
+                return true;
+            }
+            is_one = true;
         }
-        count > 1
+        false
     }
 
     // Whether a line is refused by what it says.
-    fn has_fault(&self) -> bool {
+    fn has_fault(&self) -> bool
+        ensures { result ≡ list_any (λ l. is_err l.1) self.now.lines.items }
+    {
         for line in &self.lines {
             if line.1.is_err() {
                 return true;
@@ -234,63 +308,81 @@ impl Joint {
     }
 
     /// What the lines are answered once all is done, and the status.
-    pub fn text(&self, alloc: Global) -> Result<(u16, String), Refusal> {
-        let (good, bad, text) = self.told(alloc, true)?;
-        Ok((changes_status(good, bad), text))
+    pub fn text(&self, alloc: Global) -> Result<(u16, String), Refusal>
+        ensures status { IfOk result (λ r. r.0 ≡ changes_status (told_in self.now true).good (told_in self.now true).bad) }
+        ensures text { IfOk result (λ r. string_bytes r.1 ≡ (told_in self.now true).text ++ string_bytes self.now.warnings) }
+    {
+        let telling = self.told(alloc, true)?;
+        let status = changes_status(telling.good, telling.bad);
+        Ok((status, telling.into_text(self.warnings.as_str())?))
     }
 
     /// What they are answered where what was made isn't stored.
-    pub fn unstored(&self, alloc: Global) -> Result<String, Refusal> {
-        let (_, _, text) = self.told(alloc, false)?;
-        Ok(text)
+    pub fn unstored(&self, alloc: Global) -> Result<String, Refusal>
+        ensures { IfOk result (λ t. string_bytes t ≡ (told_in self.now false).text ++ string_bytes self.now.warnings) }
+    {
+        self.told(alloc, false)?.into_text(self.warnings.as_str())
     }
 
     /// How many were made, or would be, and how many weren't.
-    pub fn counts(&self, alloc: Global) -> Result<(u64, u64), Refusal> {
-        let (good, bad, text) = self.told(alloc, true)?;
-        drop(text);
-        Ok((good, bad))
+    pub fn counts(&self, alloc: Global) -> Result<(u64, u64), Refusal>
+        ensures { IfOk result (λ r. r ≡ ((told_in self.now true).good, (told_in self.now true).bad)) }
+    {
+        let telling = self.told(alloc, true)?;
+        Ok((telling.good, telling.bad))
     }
 
-    fn told(&self, alloc: Global, are_stored: bool) -> Result<(u64, u64, String), Refusal> {
-        let mut text = String::new(alloc);
-        let mut places = Vec::new(alloc);
-        for _ in 0..self.made.len() {
-            places.push(0usize)?;
-        }
-        let mut good = 0u64;
-        let mut bad = 0u64;
+    // What is told of all lines.
+    fn told(&self, alloc: Global, are_stored: bool) -> Result<Telling, Refusal>
+        ensures { IfOk result (λ t. told_so_far t ≡ told_in self.now are_stored) }
+    {
+        let mut telling = Telling::new(alloc);
+        let mut places = zeros(alloc, &self.made)?;
         for (line, said) in &self.lines {
-            let one = match said {
-                Ok(place) => {
-                    let made = self.made_at(*place, &mut places);
-                    if is_good(made) {
-                        good = good.saturating_add(1);
-                    } else {
-                        bad = bad.saturating_add(1);
-                    }
-                    line_of(alloc, *line, made, are_stored)?
-                }
-                Err(fault) => {
-                    bad = bad.saturating_add(1);
-                    told_line(alloc, &self.whys, *line, *fault)?
-                }
-            };
-            text.push_str(one.as_str())?;
+            self.tell(alloc, &mut telling, &mut places, *line, *said, are_stored)?;
         }
-        text.push_str(self.warnings.as_str())?;
-        Ok((good, bad, text))
+        Ok(telling)
+    }
+
+    // Tells a line more, where so many changes of each replica are told.
+    fn tell(
+        &self,
+        alloc: Global,
+        telling: &mut Telling,
+        places: &mut Vec<usize>,
+        line: u64,
+        said: Result<usize, Fault>,
+        are_stored: bool,
+    ) -> Result<(), Refusal>
+        ensures told { OnOk result (told_so_far telling.new ≡ told_more (told_so_far telling.old) (one_told (map (λ w. (w.0, string_bytes w.1)) self.now.whys.items) (map (λ v. v.items) self.now.made.items) are_stored places.old.items line said)) }
+        ensures places { OnOk result (places.new.items ≡ places_after places.old.items said) }
+    {
+        match said {
+            Ok(place) => {
+                let made = self.next_made(place, places);
+                telling.add((is_good(made), line_of(alloc, line, made, are_stored)?))
+            }
+            Err(fault) => telling.add((false, told_line(alloc, &self.whys, line, fault)?)),
+        }
     }
 
     // What became of the next change of a replica.
-    fn made_at(&self, place: usize, places: &mut Vec<usize>) -> Made {
-        let Some(at) = places.get_mut(place) else {
-            return refused(Refusal::Device);
-        };
-        let now = *at;
-        *at = now.saturating_add(1);
+    fn next_made(&self, place: usize, places: &mut Vec<usize>) -> Made
+        ensures made { result ≡ next_made (map (λ v. v.items) self.now.made.items) places.old.items place }
+        ensures places { places.new.items ≡ next_places places.old.items place }
+    {
+        match next_number(places, place) {
+            Some(number) => self.made_at(place, number),
+            None => refused(Refusal::Device),
+        }
+    }
+
+    // What became of a change of a replica, by the places of both, from 0.
+    fn made_at(&self, place: usize, number: usize) -> Made
+        ensures { result ≡ made_at (map (λ v. v.items) self.now.made.items) place number }
+    {
         match self.made.get(place) {
-            Some(made) => match made.get(now) {
+            Some(made) => match made.get(number) {
                 Some(made) => *made,
                 None => refused(Refusal::Device),
             },
@@ -299,13 +391,42 @@ impl Joint {
     }
 
     /// Whether no line says anything.
-    pub fn is_empty(&self) -> bool {
+    pub fn is_empty(&self) -> bool
+        ensures { result ≡ nat_eq (length self.now.lines.items) 0 }
+    {
         self.lines.is_empty()
     }
 }
 
+// How many of a replica are told. One more is told then.
+fn next_number(places: &mut Vec<usize>, place: usize) -> Option<usize>
+    ensures number { result ≡ slice_get places.old.items place }
+    ensures places { places.new.items ≡ next_places places.old.items place }
+{
+    let Some(at) = places.get_mut(place) else {
+        return None;
+    };
+    let now = *at;
+    *at = now.saturating_add(1);
+    Some(now)
+}
+
+// Of each replica none is told.
+fn zeros(alloc: Global, made: &Vec<Vec<Made>>) -> Result<Vec<usize>, Refusal>
+    ensures { IfOk result (λ v. v.items ≡ none_told (map (λ v. v.items) made.now.items)) }
+{
+    let mut zeros = Vec::new(alloc);
+    for one in made {
+        let _ = one;
+        zeros.push(0)?;
+    }
+    Ok(zeros)
+}
+
 // The line of a change that was made, and is stored or isn't, or wasn't made.
-fn line_of(alloc: Global, line: u64, made: Made, are_stored: bool) -> Result<String, Refusal> {
+fn line_of(alloc: Global, line: u64, made: Made, are_stored: bool) -> Result<String, Refusal>
+    ensures { IfOk result (λ t. string_bytes t ≡ stored_line line made are_stored) }
+{
     match made {
         Made::Written(stamp) if !are_stored => unstored_line(alloc, line, stamp),
         _ => made_line(alloc, line, made),
@@ -322,11 +443,15 @@ pub fn unstored_line(alloc: Global, line: u64, stamp: Stamp) -> Result<String, R
 }
 
 /// A change that is refused so.
-pub fn refused(refusal: Refusal) -> Made {
+pub fn refused(refusal: Refusal) -> Made
+    ensures { result ≡ Made.Refused (record { refusal = refusal; cause = None; long = None }) }
+{
     Made::Refused(Fault::of(refusal))
 }
 
-fn is_good(made: Made) -> bool {
+fn is_good(made: Made) -> bool
+    ensures { result ≡ is_good made }
+{
     match made {
         Made::Written(_) | Made::Would => true,
         Made::Refused(_) | Made::Left => false,

@@ -1,13 +1,21 @@
 // References of resources that lead nowhere, as they are told while a server runs, and in the answer to a dry run.
-ghost use Rattle.std.specs.Prelude.{◌≡◌, string_bytes, IfOk};
+ghost use Rattle.std.specs.Prelude.{◌≡◌, map, string_bytes, IfOk, OnOk};
+ghost use Rattle.std.specs.FinMap as finmap;
+ghost use Rattle.std.specs.Option.{option_map};
+ghost use Rattle.xds_core.specs.Seen.{event_of};
+ghost use Rattle.xds_resource.specs.Any.{any_write, named_body, resource_type};
+ghost use Rattle.xds_resource.specs.Names.{put_some};
 ghost use Rattle.xds_replicas.specs.Lines.{dangling_line};
+ghost use Rattle.xds_replicas.specs.Linting.{all_applied, applied, lines_after, lines_of, looked_event, new_lines, marked};
+ghost use Rattle.xds_replicas.specs.Fitting.{looked_write};
 
+use crate::fitting::write_of as put_of;
 use crate::moves::Moves;
 use crate::opening::entries_of;
 use crate::sourcing::{live_in, sender_of};
+use crate::storing::owned;
 use crossbeam_channel::{Sender, unbounded};
 use std::alloc::Global;
-use std::collections::BTreeSet;
 use std::sync::{Arc, Wait};
 use std::time::Duration;
 use xds_changes::order::Order;
@@ -16,9 +24,7 @@ use xds_machine::machine::Runtime;
 use xds_machine::threads::{share, start_worker};
 use xds_message::Batch;
 use xds_notes::{Ending, Note};
-use xds_resource::{
-    AnyResource, AnyWrite, Groups, NameMap, Refusal, Stamp, TypeName, Write, for_any,
-};
+use xds_resource::{AnyResource, AnyWrite, Groups, NameMap, Refusal, for_any};
 use xds_sources::{Dangling, dangling_in, key_of};
 
 // After how many seconds it is looked again whether references lead nowhere.
@@ -33,42 +39,72 @@ pub fn dangling_line(alloc: Global, one: &Dangling) -> Result<String, Refusal>
     Ok(format!(in alloc; "{from} refers to {to}, which isn't held")?)
 }
 
-// The lines of all references that lead nowhere, each once.
-fn lines_of(alloc: Global, live: &NameMap<AnyWrite>) -> Result<BTreeSet<String>, Refusal> {
-    let mut lines = BTreeSet::new(alloc);
-    for one in dangling_in(alloc, live)? {
-        add(&mut lines, dangling_line(alloc, &one)?)?;
+// Lines, each once, in their order.
+type Lines = NameMap<()>;
+
+// The lines of all references that lead nowhere.
+fn lines_of(alloc: Global, live: &NameMap<AnyWrite>) -> Result<Lines, Refusal>
+    ensures { IfOk result (λ m. m ≡ lines_of live.now) }
+{
+    let found = dangling_in(alloc, live)?;
+    let mut lines = NameMap::new(alloc);
+    for one in &found {
+        add(&mut lines, dangling_line(alloc, one)?)?;
     }
     Ok(lines)
 }
 
-fn add(lines: &mut BTreeSet<String>, line: String) -> Result<(), Refusal> {
-    match lines.insert(line) {
-        Ok(_) => Ok(()),
-        Err(_) => Err(Refusal::OutOfMemory),
-    }
+fn add(lines: &mut Lines, line: String) -> Result<(), Refusal>
+    ensures { OnOk result (lines.new ≡ put_some lines.old (string_bytes line) (marked (string_bytes line))) }
+{
+    lines.insert(line, ())?;
+    Ok(())
 }
 
 /// The lines of references that lead nowhere once these changes are made over what is held, and don't before.
-pub fn lines_after(alloc: Global, held: &Batch, changes: &Vec<Event>) -> Result<String, Refusal> {
+pub fn lines_after(alloc: Global, held: &Batch, changes: &Vec<Event>) -> Result<String, Refusal>
+    ensures { IfOk result (λ t. string_bytes t ≡ lines_after held.now (map event_of changes.now.items)) }
+{
     let mut live = live_in(alloc, held)?;
     let before = lines_of(alloc, &live)?;
-    for change in changes {
-        apply(alloc, &mut live, change)?;
-    }
+    apply_all(alloc, &mut live, changes)?;
     let after = lines_of(alloc, &live)?;
+    new_lines(alloc, &before, &after)
+}
+
+// Makes changes of what is live, one after another.
+fn apply_all(
+    alloc: Global,
+    live: &mut NameMap<AnyWrite>,
+    changes: &Vec<Event>,
+) -> Result<(), Refusal>
+    ensures { OnOk result (live.new ≡ all_applied live.old (map event_of changes.now.items)) }
+{
+    for change in changes {
+        apply(alloc, live, change)?;
+    }
+    Ok(())
+}
+
+// The lines that weren't there before, with their ends.
+fn new_lines(alloc: Global, before: &Lines, after: &Lines) -> Result<String, Refusal>
+    ensures { IfOk result (λ t. string_bytes t ≡ new_lines before.now (finmap.entries after.now)) }
+{
     let mut text = String::new(alloc);
-    for line in &after {
-        if !before.contains(line) {
-            text.push_str(line.as_str())?;
-            text.push_str("\n")?;
+    for (line, _) in after.iter() {
+        if before.contains(line.as_str()) {
+            continue;
         }
+        text.push_str(line.as_str())?;
+        text.push_str("\n")?;
     }
     Ok(text)
 }
 
 // Makes a put or a deletion of what is live.
-fn apply(alloc: Global, live: &mut NameMap<AnyWrite>, change: &Event) -> Result<(), Refusal> {
+fn apply(alloc: Global, live: &mut NameMap<AnyWrite>, change: &Event) -> Result<(), Refusal>
+    ensures { OnOk result (live.new ≡ applied live.old (event_of change.now)) }
+{
     match change {
         Event::Put(resource, _) => {
             let key = key_of(alloc, resource.type_name(), resource.name())?;
@@ -85,18 +121,16 @@ fn apply(alloc: Global, live: &mut NameMap<AnyWrite>, change: &Event) -> Result<
 }
 
 // A write that puts a resource.
-fn write_of(alloc: Global, resource: &AnyResource) -> Result<AnyWrite, Refusal> {
-    let stamp = Stamp {
-        counter: 1,
-        writer: 1,
-    };
-    Ok(
-        for_any!(resource, AnyResource(resource) => AnyWrite of Write::put(stamp, resource.try_copy(alloc)?, Groups::none())),
-    )
+fn write_of(alloc: Global, resource: &AnyResource) -> Result<AnyWrite, Refusal>
+    ensures { IfOk result (λ w. w ≡ any_write (resource_type resource.now) (looked_write (named_body resource.now))) }
+{
+    Ok(for_any!(resource, AnyResource(resource) => AnyWrite of put_of(alloc, resource)?))
 }
 
 /// A copy of a put or a deletion, which is looked at. No body is copied.
-pub fn copy_of(alloc: Global, change: &Event) -> Result<Option<Event>, Refusal> {
+pub fn copy_of(alloc: Global, change: &Event) -> Result<Option<Event>, Refusal>
+    ensures { IfOk result (λ o. option_map event_of o ≡ looked_event (event_of change.now)) }
+{
     match change {
         Event::Put(resource, _) => Ok(Some(Event::Put(resource.try_copy(alloc)?, Groups::none()))),
         Event::Delete(kind, name) => Ok(Some(Event::Delete(
@@ -130,8 +164,8 @@ pub fn start_linting<R: Runtime>(
 // What is known of the references that lead nowhere.
 struct Known {
     // Those that were told, and those that are told if they still lead nowhere at the next look.
-    told: BTreeSet<String>,
-    waiting: BTreeSet<String>,
+    told: Lines,
+    waiting: Lines,
     // The counts of changes at the last look, if there was one.
     marks: Option<Marks>,
 }
@@ -155,8 +189,8 @@ fn follow_references<R: Runtime>(
     ending: &Ending,
 ) {
     let mut known = Known {
-        told: BTreeSet::new(alloc),
-        waiting: BTreeSet::new(alloc),
+        told: NameMap::new(alloc),
+        waiting: NameMap::new(alloc),
         marks: None,
     };
     for _ in rt.forever() {
@@ -167,13 +201,18 @@ fn follow_references<R: Runtime>(
             return;
         }
         let is_due = match known.marks {
-            Some(marks) => moves.is_past(rt, 1, marks) || !known.waiting.is_empty(),
+            Some(marks) => moves.is_past(rt, 1, marks) || are_any(&known.waiting),
             None => true,
         };
         if is_due {
             let _ = look(rt, alloc, &mut known, orders, ending);
         }
     }
+}
+
+// Whether there are any lines.
+fn are_any(lines: &Lines) -> bool {
+    lines.iter().len() > 0
 }
 
 // Tells the references that lead nowhere, and did at the last look, and weren't told.
@@ -191,17 +230,19 @@ fn look<R: Wait>(
     let live = live?;
     let lines = lines_of(alloc, &live);
     drop(live);
-    let mut told = BTreeSet::new(alloc);
-    let mut waiting = BTreeSet::new(alloc);
-    for line in lines? {
-        if known.told.contains(&line) {
-            add(&mut told, line)?;
-        } else if known.waiting.contains(&line) {
-            let text = String::from_str(alloc, line.as_str())?;
+    let lines = lines?;
+    let mut told = NameMap::new(alloc);
+    let mut waiting = NameMap::new(alloc);
+    for (line, _) in lines.iter() {
+        let copy = owned(alloc, line.as_str())?;
+        if known.told.contains(line.as_str()) {
+            add(&mut told, copy)?;
+        } else if known.waiting.contains(line.as_str()) {
+            let text = owned(alloc, line.as_str())?;
             ending.announce(rt, Note::Said(text));
-            add(&mut told, line)?;
+            add(&mut told, copy)?;
         } else {
-            add(&mut waiting, line)?;
+            add(&mut waiting, copy)?;
         }
     }
     known.told = told;

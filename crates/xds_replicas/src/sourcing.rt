@@ -1,5 +1,10 @@
 // A folder whose resources are all that shall be held of what came from it: what it says at the start, and as it changes.
-ghost use Rattle.std.specs.Prelude.{◌≤◌};
+ghost use Rattle.std.specs.Prelude.{◌≡◌, ◌≤◌, max, map, Ok, IfOk, OnOk};
+ghost use Rattle.xds_resource.specs.PerType.{at};
+ghost use Rattle.xds_changes.specs.Loads.{made_by};
+ghost use Rattle.xds_sources.specs.Differences.{edit_of};
+ghost use Rattle.xds_replicas.specs.Linting.{live_in, with_any, with_writes};
+ghost use Rattle.xds_replicas.specs.Sourcing.{all_made, edit_event, made_over};
 
 use crate::fitting::refused_text;
 use crate::opening::entries_of;
@@ -128,7 +133,9 @@ fn name_at(files: &[SourceFile], place: usize) -> &str {
 }
 
 /// The writes of live resources of a batch, by type and name. Their texts are shared.
-pub fn live_in(alloc: Global, held: &Batch) -> Result<NameMap<AnyWrite>, Refusal> {
+pub fn live_in(alloc: Global, held: &Batch) -> Result<NameMap<AnyWrite>, Refusal>
+    ensures { IfOk result (λ m. m ≡ live_in held.now) }
+{
     let mut live = NameMap::new(alloc);
     for kind in TypeName::ALL {
         add_live(alloc, &mut live, held, kind)?;
@@ -141,22 +148,34 @@ fn add_live(
     live: &mut NameMap<AnyWrite>,
     held: &Batch,
     kind: TypeName,
-) -> Result<(), Refusal> {
+) -> Result<(), Refusal>
+    ensures { OnOk result (live.new ≡ with_writes kind live.old (at held.now kind)) }
+{
     for index in 0..held.len_of(kind) {
-        let write = held.write_at(alloc, kind, index)?;
-        if write.body().is_some() {
-            let key = key_of(alloc, kind, write.name())?;
-            drop(live.insert(key, write)?);
-        } else {
-            drop(write);
-        }
+        add_write(alloc, live, held.write_at(alloc, kind, index)?)?;
     }
+    Ok(())
+}
+
+// Adds a write, if it puts a resource.
+fn add_write(alloc: Global, live: &mut NameMap<AnyWrite>, write: AnyWrite) -> Result<(), Refusal>
+    ensures { OnOk result (live.new ≡ with_any live.old write) }
+{
+    if write.body().is_none() {
+        drop(write);
+        return Ok(());
+    }
+    let key = key_of(alloc, write.type_name(), write.name())?;
+    drop(live.insert(key, write)?);
     Ok(())
 }
 
 // rule: loaded-first
 /// All that is held once what a folder says is made over this, by the replica of this number: exactly the resources of the folder are live.
-pub fn made_over(alloc: Global, world: Batch, said: &Said, writer: u16) -> Result<Batch, Refusal> {
+#[tactic(auto, using(crate::proofs::Making::made_so))]
+pub fn made_over(alloc: Global, world: Batch, said: &Said, writer: u16) -> Result<Batch, Refusal>
+    ensures { IfOk result (λ b. made_over (max writer 1) world said.now.wanted ≡ Ok b) }
+{
     let live = match live_in(alloc, &world) {
         Ok(live) => live,
         Err(refusal) => {
@@ -168,16 +187,28 @@ pub fn made_over(alloc: Global, world: Batch, said: &Said, writer: u16) -> Resul
     drop(live);
     let mut held = Catalogues::new(alloc);
     held.join_all(alloc, world)?;
-    for change in changes? {
-        make(&mut held, writer.max(1), change)?;
-    }
+    make_all(&mut held, writer.max(1), changes?)?;
     let batch = held.entries(alloc);
     drop(held);
     batch
 }
 
+// rule: loaded-first
+// Makes changes of a folder, one after another.
+fn make_all(held: &mut Catalogues, writer: u16, changes: Vec<SourceChange>) -> Result<(), Refusal>
+    requires { 1 ≤ writer }
+    ensures { OnOk result (all_made writer held.old (map edit_of changes.items) ≡ Ok held.new) }
+{
+    for change in changes {
+        make(held, writer, change)?;
+    }
+    Ok(())
+}
+
+// rule: loaded-first
 fn make(held: &mut Catalogues, writer: u16, change: SourceChange) -> Result<(), Refusal>
     requires { 1 ≤ writer }
+    ensures { OnOk result (made_by writer held.old (edit_event (edit_of change)) ≡ Ok held.new) }
 {
     match change {
         SourceChange::Put(resource) => {

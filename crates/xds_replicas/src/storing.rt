@@ -1,7 +1,7 @@
 // A store while a server runs: it is told what changes at each replica, as one more peer of all of them.
 ghost use Rattle.std.specs.Prelude.{◌≡◌, true, string_bytes, IfOk};
 ghost use Rattle.xds_core.specs.declared.catalogues.Marks.{Marks};
-ghost use Rattle.xds_replicas.specs.Moved.{has_all};
+ghost use Rattle.xds_replicas.specs.Moved.{greatest, has_all};
 
 use std::alloc::Global;
 use std::sync::{Arc, Condvar, Mutex, Wait};
@@ -278,7 +278,9 @@ pub fn nothing() -> Marks
 }
 
 /// Counts of changes after which nothing changed.
-pub fn everything() -> Marks {
+pub fn everything() -> Marks
+    ensures { result ≡ greatest }
+{
     Marks {
         cluster: u64::MAX,
         endpoint: u64::MAX,

@@ -1,5 +1,5 @@
 -- The status of what is shown of an answer.
-use Rattle.std.proofs.Common.{◌≡◌, ◌≤◌, ℕ, List, inl, inr, arith}
+use Rattle.std.proofs.Common.{◌≤◌, ℕ, List, inl, inr, arith}
 use Rattle.xds_frames.specs.Devices.{Device}
 use Rattle.xds_tools.specs.Asked.{ShowsBy}
 use Rattle.xds_tools.specs.declared.asking.Shown.{Shown}

@@ -1,0 +1,3 @@
+mod Lining
+mod Living
+mod Making
