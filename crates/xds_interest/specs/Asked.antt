@@ -60,7 +60,7 @@ abbrev pub sotw_asked : TypeName → Asked → List (List ℕ) → Asked
 sotw_asked t a names = record {
   begun = true;
   named = a.named || is_named names;
-  interest = in_cluster a.interest.cluster (list_says t a.named names);
+  interest = in_cluster a.interest.cluster (if a.named || is_named names then listed t names else everything t);
 }
 
 -- rule: delta-names
