@@ -1,16 +1,21 @@
 -- Polls of one type, and of all.
-use Rattle.std.proofs.Common.{◌≡◌, ℕ, ◌+◌, ◌<◌, ◌≤◌, List, [], ◌∷◌, drop, length, get_or, true, false, Option, Some, None, Result, Ok, Err, refl, sym, ap, subst, ◌∙◌}
-use Rattle.std.specs.Prelude.{if◌then◌else◌, is_some, IsSome, IfOk, IfErr}
+use Rattle.std.proofs.Common.{◌≡◌, ℕ, ◌+◌, ◌<◌, ◌≤◌, List, [], ◌∷◌, drop, length, get_or, Bool, true, false, ◌||◌, Option, Some, None, Result, Ok, Err, refl, sym, ap, subst, ◌∙◌}
+use Rattle.std.specs.Prelude.{if◌then◌else◌, is_some, find, IsSome}
+use Rattle.std.specs.List.{list_any}
 use Rattle.std.specs.Option.{option_map_or}
 use Rattle.std.proofs.lemmas.List.{drop_more, drop_all}
 use Rattle.xds_resource.specs.declared.types.TypeName.{TypeName}
 use Rattle.xds_resource.specs.declared.refusal.Refusal.{Refusal}
-use Rattle.xds_resource.specs.declared.refusal.Refusal.TheVariants.{OutOfMemory}
+use Rattle.xds_resource.specs.PerType.{PerType, at}
 use Rattle.xds_resource.specs.Refusals.{Gives}
+use Rattle.xds_resource.specs.Types.{types}
 use Rattle.xds_message.specs.declared.draft.Draft.{Draft}
 use Rattle.xds_ledger.specs.Offers.{Offer}
+use Rattle.xds_ledger.specs.Sessions.{Session, sending}
+use Rattle.xds_ledger.specs.declared.variant.VariantName.{VariantName}
 use Rattle.xds_core.specs.Stores.{Store}
-use Rattle.xds_core.specs.Streams.{Stream, IsToRespond, opening, looked_at, to_send, first_due, responding, polled, polled_first}
+use Rattle.xds_core.specs.Talks.{due_in, is_due}
+use Rattle.xds_core.specs.Streams.{Stream, IsToRespond, looked_at, to_send, first_due, responding, polled, polled_first}
 
 alone : (replica : ℕ) (store : Store) (s : Stream) (t : TypeName) (q : Option Offer) → option_map_or (λ u. option_map_or (responding replica store s u) (to_send store s u) (Ok (None, s))) (if is_some q then Some t else None) (Ok (None, s)) ≡ (if is_some q then polled replica store s t else Ok (None, s))
 alone replica store s t None = refl
@@ -32,30 +37,25 @@ pub gives_alone : (replica : ℕ) (held : Store) (kind : TypeName) (which : Opti
 gives_alone replica held kind which result left self is gives =
     subst (λ w. Gives (λ o. (o, left)) result (polled_first replica held self (looked_at w))) (sym is) (subst (Gives (λ o. (o, left)) result) (sym (polled_alone replica held self kind)) gives)
 
--- what a poll of a stream whose variant is decided gives
-pub polled_by : (replica : ℕ) (held : Store) (kind : TypeName) (r result : Result (Option Draft) Refusal) (left after before self : Stream) → result ≡ r → left ≡ after → before ≡ self
-    → Gives (λ o. (o, after)) r (polled replica held before kind) → Gives (λ o. (o, left)) result (polled replica held self kind)
-polled_by replica held kind r result left after before self is leaves begins gives =
-    subst (λ x. Gives (λ o. (o, left)) x (polled replica held self kind)) (sym is)
-    (subst (λ l. Gives (λ o. (o, l)) r (polled replica held self kind)) (sym leaves) (subst (λ b. Gives (λ o. (o, after)) r (polled replica held b kind)) begins gives))
-
--- while a stream is opening, nothing is sent
-pub polled_opening : (replica : ℕ) (held : Store) (kind : TypeName) (result : Result (Option Draft) Refusal) (left self : Stream) → result ≡ Ok None → left ≡ opening → opening ≡ self → Gives (λ o. (o, left)) result (polled replica held self kind)
-polled_opening replica held kind result left self is leaves begins = polled_by replica held kind (Ok None) result left opening opening self is leaves begins refl
-
--- whether there is a response
-pub sent_by : {X : Type 0} (held : Store) (kind : TypeName) (r result : Result (Option X) Refusal) (before self : Stream) → result ≡ r → before ≡ self → IfOk r (λ o. is_some o ≡ is_some (to_send held before kind))
-    → IfOk result (λ o. is_some o ≡ is_some (to_send held self kind))
-sent_by held kind r result before self is begins sent =
-    subst (λ x. IfOk x (λ o. is_some o ≡ is_some (to_send held self kind))) (sym is) (subst (λ b. IfOk r (λ o. is_some o ≡ is_some (to_send held b kind))) begins sent)
-
--- where memory ends
-pub short_by : {X : Type 0} (held : Store) (kind : TypeName) (r result : Result X Refusal) (before self : Stream) → result ≡ r → before ≡ self → IfErr r (λ e. e ≡ OutOfMemory → IsToRespond held before (kind ∷ []))
-    → IfErr result (λ e. e ≡ OutOfMemory → IsToRespond held self (kind ∷ []))
-short_by held kind r result before self is begins short =
-    subst (λ x. IfErr x (λ e. e ≡ OutOfMemory → IsToRespond held self (kind ∷ []))) (sym is) (subst (λ b. IfErr r (λ e. e ≡ OutOfMemory → IsToRespond held b (kind ∷ []))) begins short)
-
 -- ---- one type after another
+
+some_or : {X : Type 0} (b : Bool) (x : X) (o : Option X) → is_some (if b then Some x else o) ≡ (b || is_some o)
+some_or true x o = refl
+some_or false x o = refl
+
+-- there is a first one where there is any
+first_is_any : {X : Type 0} (p : X → Bool) (xs : List X) → is_some (find p xs) ≡ list_any p xs
+first_is_any p [] = refl
+first_is_any p (x ∷ xs) = some_or (p x) x (find p xs) ∙ ap (λ b. p x || b) (first_is_any p xs)
+
+due_by : (store : Store) (n : ℕ) (ss : PerType Session) (o : Option VariantName) → is_due store (record { variant = o; count = n; sessions = ss }) ≡ is_some (first_due store (record { variant = o; count = n; sessions = ss }) types)
+unfolding due_in
+due_by store n ss None = refl
+due_by store n ss (Some v) = sym (first_is_any (λ t. is_some (sending v t (at ss t) (at store t).entries)) types)
+
+-- a response is to be sent where there is a first type that has one
+pub due_is : (store : Store) (s : Stream) → is_due store s ≡ is_some (first_due store s types)
+due_is store s = due_by store s.count s.sessions s.variant
 
 next_one : (ts : List TypeName) (i : ℕ) (t d : TypeName) → i < length ts → t ≡ get_or ts i d → drop i ts ≡ t ∷ drop (i + 1) ts
 next_one ts i t d within is = drop_more ts i d within ∙ ap (λ y. y ∷ drop (i + 1) ts) (sym is)
@@ -114,3 +114,14 @@ short_due store s t short = short_if t (to_send store s t) short.0
 
 pub short_first : (store : Store) (s : Stream) (ts : List TypeName) (t : TypeName) → first_due store s ts ≡ Some t → IsToRespond store s (t ∷ []) → IsToRespond store s ts
 short_first store s ts t is short = (subst IsSome (sym is) refl, short.1)
+
+-- what a poll of the next type gives, once those before it had nothing to send, a poll of all does
+module _ (replica : ℕ) (store : Store) (s now : Stream) (ts : List TypeName) (i : ℕ) (t d : TypeName) (within : i < length ts) (is : t ≡ get_or ts i d) (before : first_due store now (drop i ts) ≡ first_due store now ts) (same : s ≡ now) where
+  next_is : is_some (to_send store s t) ≡ true → first_due store now ts ≡ Some t
+  next_is due = due_here store now ts i t d (first_due store now ts) within is before (ap (λ x. is_some (to_send store x t)) (sym same) ∙ due)
+
+  pub any_gives : (r : Result (Option Draft × Stream) Refusal) → is_some (to_send store s t) ≡ true → polled replica store s t ≡ r → polled_first replica store now ts ≡ r
+  any_gives r due gives = first_gives replica store now ts t (next_is due) ∙ ap (λ x. polled replica store x t) (sym same) ∙ gives
+
+  pub any_short : IsToRespond store s (t ∷ []) → IsToRespond store now ts
+  any_short short = short_first store now ts t (next_is (short_due store s t short)) (subst (λ x. IsToRespond store x (t ∷ [])) same short)

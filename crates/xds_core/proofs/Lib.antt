@@ -3,7 +3,6 @@ pub mod Walking
 pub mod Polling
 pub mod FirstDue
 pub mod StreamsFitting
-mod Sides
 pub mod StreamSteps
 pub mod StepLaws
 pub mod Twins

@@ -9,7 +9,7 @@ use Rattle.xds_resource.specs.declared.refusal.Refusal.TheVariants.{OutOfMemory,
 use Rattle.xds_resource.specs.Refusals.{Gives}
 use Rattle.xds_resource.specs.Stamps.{max_counter}
 use Rattle.xds_core.specs.Stores.{if_done, putting_at, deleting_at, merging}
-use Rattle.xds_core.specs.States.{firsts}
+use Rattle.xds_core.specs.Talks.{firsts}
 use Rattle.xds_core.specs.Streams.{Stream, requested}
 use Rattle.xds_core.specs.Events.{Event, Open, Request, Poll, Owes, Close, Put, Delete, Merge, Snapshot, Rest, Since, Reply, Opened, Answered, Written, Merged}
 use Rattle.xds_core.specs.declared.event.Reply as declared

@@ -1,24 +1,11 @@
--- How a session of the program is seen, in either variant. This project's own.
---     spoken_of   a session, with its variant
---     firsts      the first of two, where there are two
---     tagged      a response of one variant, with what stands beside it, as one of either
-use Rattle.std.specs.Prelude.{Option, option_map, Result, Ok, Err}
-use Rattle.xds_message.specs.declared.draft.Draft.{Draft}
+-- How a stream of the program is seen. This project's own.
+--     followed_of   a stream, be its variant decided or not, with its lists
 use Rattle.xds_ledger.specs.declared.variant.VariantName.TheVariants as variants
-use Rattle.xds_core.specs.declared.session.Side.{Side}
-use Rattle.xds_core.specs.declared.session.Side.TheVariants as sides
-use Rattle.xds_core.specs.Talks.{Spoken}
+use Rattle.xds_core.specs.declared.stream.Stage.{Stage}
+use Rattle.xds_core.specs.declared.stream.Stage.TheVariants as stages
+use Rattle.xds_core.specs.Talks.{Followed, followed_opening, followed}
 
-abbrev pub spoken_of : {T : Type 0} → Side T → Spoken
-spoken_of (sides.Sotw session) = record { variant = variants.StateOfTheWorld; kept = session }
-spoken_of (sides.Delta session) = record { variant = variants.Delta; kept = session }
-
--- the first of two, where there are two
-abbrev pub firsts : {D T E : Type 0} → Result (Option (D × T)) E → Result (Option D) E
-firsts (Ok o) = Ok (option_map (λ p. p.0) o)
-firsts (Err e) = Err e
-
--- a response of one variant, with what stands beside it, as one of either
-abbrev pub tagged : {A B D E : Type 0} → (D → Draft) → Result (Option (A × D × B)) E → Result (Option (A × Draft × B)) E
-tagged tag (Ok d) = Ok (option_map (λ p. (p.0, tag p.1, p.2)) d)
-tagged tag (Err e) = Err e
+abbrev pub followed_of : Stage → Followed
+followed_of stages.Opening = followed_opening
+followed_of (stages.Sotw talk) = followed variants.StateOfTheWorld talk
+followed_of (stages.Delta talk) = followed variants.Delta talk

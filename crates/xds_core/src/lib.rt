@@ -10,9 +10,9 @@ pub mod parts;
 mod pending;
 pub mod replica;
 pub mod request;
-mod session;
 pub mod stream;
 mod talk;
+mod variants;
 
 pub use catalogues::{Catalogues, Marks};
 pub use event::{Event, Record, Reply};

@@ -14,7 +14,7 @@ ghost use Rattle.xds_core.specs.Counts.{counts_of};
 ghost use Rattle.xds_core.specs.Twice.{IsShortBeside, poll_in};
 ghost use Rattle.xds_core.specs.Stores.{if_done};
 ghost use Rattle.xds_core.specs.declared.event.Reply.TheVariants as replies;
-ghost use Rattle.xds_core.specs.States.{firsts};
+ghost use Rattle.xds_core.specs.Talks.{firsts};
 ghost use Rattle.xds_core.specs.Streams.{looked_at, owes_some, first_due};
 
 use crate::catalogues::{Catalogues, Marks};

@@ -2,10 +2,9 @@
 ghost use Rattle.std.specs.Prelude.{◌≡◌, IfOk, IfErr};
 ghost use Rattle.xds_resource.specs.declared.refusal.Refusal.TheVariants.{OutOfMemory};
 ghost use Rattle.xds_core.specs.StreamsSeen.{message_of};
-ghost use Rattle.xds_core.specs.Streams.{variant_of, url_of, cluster_in, cluster_of};
+ghost use Rattle.xds_core.specs.Streams.{url_of, cluster_in};
 
 use std::alloc::Global;
-use xds_ledger::VariantName;
 use xds_message::{DeltaDiscoveryRequest, DiscoveryRequest, Node};
 use xds_resource::Refusal;
 
@@ -27,7 +26,7 @@ impl Drop for Request {
 
 // rule: groups
 // The cluster text of a node, if there is one.
-fn cluster_in(node: &Option<Node>) -> &str
+pub(crate) fn cluster_in(node: &Option<Node>) -> &str
     ensures { result.now ≡ cluster_in node.now }
 {
     match node {
@@ -37,31 +36,12 @@ fn cluster_in(node: &Option<Node>) -> &str
 }
 
 impl Request {
-    pub fn variant(&self) -> VariantName
-        ensures { result ≡ variant_of (message_of self.now) }
-    {
-        match self {
-            Request::Sotw(_) => VariantName::StateOfTheWorld,
-            Request::Delta(_) => VariantName::Delta,
-        }
-    }
-
     pub fn type_url(&self) -> &str
         ensures { result.now ≡ url_of (message_of self.now) }
     {
         match self {
             Request::Sotw(request) => request.type_url.as_str(),
             Request::Delta(request) => request.type_url.as_str(),
-        }
-    }
-
-    /// The cluster text of the node in the request, empty where there is none.
-    pub fn cluster(&self) -> &str
-        ensures { result.now ≡ cluster_of (message_of self.now) }
-    {
-        match self {
-            Request::Sotw(request) => cluster_in(&request.node),
-            Request::Delta(request) => cluster_in(&request.node),
         }
     }
 

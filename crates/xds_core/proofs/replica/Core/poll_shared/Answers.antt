@@ -6,11 +6,9 @@ use Rattle.xds_resource.specs.declared.refusal.Refusal.TheVariants.{OutOfMemory}
 use Rattle.xds_core.specs.Stores.{if_done}
 use Rattle.xds_core.specs.Events as events
 use Rattle.xds_core.specs.Legal.{IsShort}
-use Rattle.xds_core.specs.Seen.{reply_of}
 use Rattle.xds_core.specs.declared.event.Reply.TheVariants as replies
-use Rattle.xds_core.specs.States.{firsts}
 use Rattle.xds_core.specs.Streams.{looked_at, polled_first}
-use Rattle.xds_core.specs.Talks.{StreamFits}
+use Rattle.xds_core.specs.Talks.{firsts, StreamFits}
 use Rattle.xds_core.proofs.StreamsFitting.{opening_fits}
 use Rattle.xds_core.specs.Lists.{AllFit, streams_of}
 use Rattle.xds_core.proofs.Fitting.{has_stream, none_there, not_open, puts_back, fits_back}

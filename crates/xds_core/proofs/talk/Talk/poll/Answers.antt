@@ -1,28 +1,22 @@
-use Rattle.std.proofs.Common.{◌≡◌, ◌≤◌, refl, sym, ap, subst, ◌∙◌}
-use Rattle.std.specs.Prelude.{IfSome}
-use Rattle.xds_resource.specs.Stamps.{max_counter}
-use Rattle.xds_core.specs.Talks.{Talk, IsNextOf, sent_at}
-use Rattle.xds_core.proofs.Polling.{some_given, some_due, twin_short, short_any}
-use Rattle.xds_core.proofs.StreamsFitting.{sent_listing_fits}
+use Rattle.std.proofs.Common.{◌≡◌, sym, subst}
+use Rattle.std.specs.Prelude.{IfErr}
+use Rattle.xds_resource.specs.declared.refusal.Refusal.TheVariants.{OutOfMemory}
+use Rattle.xds_core.specs.Streams.{IsToRespond, looked_at}
+use Rattle.xds_core.specs.Talks.{firsts, stream_in}
+use Rattle.xds_core.proofs.FirstDue.{gives_alone}
 use Rattle.xds_core.proofs.talk.Talk.poll.Goals as goal
 
-pub returns-clause-polls : goal.returns-clause-polls
-returns-clause-polls c =
-    some_given c.args.replica c.args.held.now c.args.self.now.talk c.args.kind c.in-Some.offer c.in-Some.draft c.in-Some.drawn c.send.new.self.talk
-    (subst (IsNextOf c.args.replica c.args.held.now c.args.self.now.talk c.args.kind) c.in-Some.is c.in_ok-offer.ensures.ok) (subst (λ o. IfSome o (λ p. p.2 ≤ max_counter)) c.in-Some.is c.in_ok-offer.ensures.bound)
-    (c.send.ensures.sent ∙ ap (λ (t : Talk). sent_at t c.args.kind c.in-Some.offer c.in-Some.drawn) c.next.ensures.same)
+pub returns-in-Some-clause-polls : goal.returns-in-Some-clause-polls
+returns-in-Some-clause-polls g c =
+    let v = g.V.Variant.NAME in
+    gives_alone c.args.replica c.args.held.now c.in-Some.kind c.args.which (firsts c.poll_type.result) (stream_in v c.poll_type.new.self) (stream_in v c.args.self.now) c.in-Some.is c.poll_type.ensures.polls.gives
 
-pub returns-clause-sent : goal.returns-clause-sent
-returns-clause-sent c =
-    sym (some_due c.args.replica c.args.held.now c.args.self.now.talk c.args.kind c.in-Some.offer c.in-Some.draft c.in-Some.drawn (subst (IsNextOf c.args.replica c.args.held.now c.args.self.now.talk c.args.kind) c.in-Some.is c.in_ok-offer.ensures.ok))
+pub returns-in-Some-clause-fits : goal.returns-in-Some-clause-fits
+returns-in-Some-clause-fits g c = c.poll_type.ensures.polls.fits
 
-pub returns-clause-fits : goal.returns-clause-fits
-returns-clause-fits c =
-    sent_listing_fits c.args.replica c.args.held.now c.next.new.self c.send.new.self c.args.self.now c.args.kind c.in-Some.offer c.in-Some.draft c.in-Some.drawn c.next.ensures.same c.send.ensures.sent c.send.ensures.lists
-    (subst (IsNextOf c.args.replica c.args.held.now c.args.self.now.talk c.args.kind) c.in-Some.is c.in_ok-offer.ensures.ok) c.next.ensures.fits
+pub returns-in-Some-clause-memory : goal.returns-in-Some-clause-memory
+returns-in-Some-clause-memory g c =
+    subst (λ w. IfErr c.poll_type.result (λ e. e ≡ OutOfMemory → IsToRespond c.args.held.now (stream_in g.V.Variant.NAME c.args.self.now) (looked_at w))) (sym c.in-Some.is) c.poll_type.ensures.polls.memory
 
-pub returns-in_err-twin-clause-memory : goal.returns-in_err-twin-clause-memory
-returns-in_err-twin-clause-memory c =
-    short_any c.from_residual-in_err-twin.result
-    (twin_short c.args.replica c.args.held.now c.args.self.now.talk c.args.kind c.in-Some.offer c.in-Some.draft c.in-Some.drawn (subst (IsNextOf c.args.replica c.args.held.now c.args.self.now.talk c.args.kind) c.in-Some.is c.in_ok-offer.ensures.ok)
-    (subst (λ o. IfSome o (λ p. p.2 ≤ max_counter)) c.in-Some.is c.in_ok-offer.ensures.bound))
+pub returns-in-Some-clause-err : goal.returns-in-Some-clause-err
+returns-in-Some-clause-err g c = c.poll_type.ensures.polls.same
