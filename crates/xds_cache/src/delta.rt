@@ -13,7 +13,7 @@ use crate::asks::Asks;
 use crate::cache::Cache;
 use crate::delta_response::judged;
 use crate::judged::Judged;
-use crate::link::Link;
+use crate::link::LinkState;
 use crate::rejection::rejection;
 use crate::shelf::Shelf;
 use crate::streaming::StreamingClient;
@@ -136,7 +136,7 @@ impl Asks for DeltaDiscoveryRequest {
     }
 }
 
-impl<A: Accept, L: Link> StreamingClient<A, L, DeltaDiscoveryRequest> {
+impl<A: Accept, L: LinkState> StreamingClient<A, L, DeltaDiscoveryRequest> {
     // The request that a change sends, if it sends one.
     fn request_after(
         &self,

@@ -29,7 +29,7 @@ pub use asks::Asks;
 pub use cache::Cache;
 pub use delta::DeltaClient;
 pub use holding::Holding;
-pub use link::{Down, Link, Up};
+pub use link::{Down, LinkState, Up};
 pub use rest::RestClient;
 pub use sotw::SotwClient;
 pub use streaming::StreamingClient;

@@ -1,7 +1,7 @@
 // Whether a client has a stream, as types of state.
 
 /// Whether a client is on a stream.
-pub trait Link {
+pub trait LinkState {
     ghost use Rattle.std.specs.Prelude.{Bool};
 
     ghost IS_UP: { Bool };
@@ -17,7 +17,7 @@ pub struct Down;
 #[derive(Clone, Copy, Debug)]
 pub struct Up;
 
-impl Link for Down {
+impl LinkState for Down {
     ghost use Rattle.std.specs.Prelude.{false};
 
     ghost IS_UP = { false };
@@ -25,7 +25,7 @@ impl Link for Down {
     const IS_UP: bool = false;
 }
 
-impl Link for Up {
+impl LinkState for Up {
     ghost use Rattle.std.specs.Prelude.{true};
 
     ghost IS_UP = { true };

@@ -10,7 +10,7 @@ ghost use Rattle.xds_cache.specs.Receives.{sotw_change};
 use crate::accept::Accept;
 use crate::asks::Asks;
 use crate::judged::Judged;
-use crate::link::Link;
+use crate::link::LinkState;
 use crate::rejection::rejection;
 use crate::shelf::Shelf;
 use crate::sotw_response::judged;
@@ -110,7 +110,7 @@ impl Asks for DiscoveryRequest {
     }
 }
 
-impl<A: Accept, L: Link> StreamingClient<A, L, DiscoveryRequest> {
+impl<A: Accept, L: LinkState> StreamingClient<A, L, DiscoveryRequest> {
     // The request that a change sends, if it sends one.
     fn request_after(
         &self,

@@ -12,7 +12,7 @@ use crate::accept::Accept;
 use crate::asks::Asks;
 use crate::cache::Cache;
 use crate::client::Client;
-use crate::link::{Down, Link, Up};
+use crate::link::{Down, LinkState, Up};
 use std::alloc::Global;
 use std::marker::{Model, PhantomData};
 use xds_resource::{Refusal, TypeName};
@@ -20,14 +20,14 @@ use xds_resource::{Refusal, TypeName};
 /// A client of one of the two variants, for all types. `A` is its test of what it is sent, `L` says whether it is
 /// [`Down`] or [`Up`], and `R` is what it sends.
 #[derive(Drop)]
-pub struct StreamingClient<A: Accept, L: Link, R: Asks> {
+pub struct StreamingClient<A: Accept, L: LinkState, R: Asks> {
     pub(crate) client: Client,
     test: PhantomData<A>,
     link: PhantomData<L>,
     sends: PhantomData<R>,
 }
 
-impl<A: Accept, L: Link, R: Asks> Model for StreamingClient<A, L, R> {
+impl<A: Accept, L: LinkState, R: Asks> Model for StreamingClient<A, L, R> {
     ghost use Rattle.xds_cache.specs.Clients as clients;
     ghost use Rattle.xds_cache.specs.Clients.{client_code, IsUsableWhenDown};
 
@@ -40,7 +40,7 @@ impl<A: Accept, L: Link, R: Asks> Model for StreamingClient<A, L, R> {
     ghost invariant = { λ c. IsUsableWhenDown L.IS_UP c.client };
 }
 
-impl<A: Accept, L: Link, R: Asks> StreamingClient<A, L, R> {
+impl<A: Accept, L: LinkState, R: Asks> StreamingClient<A, L, R> {
     /// What the client holds of a type.
     pub fn view(&self, kind: TypeName) -> &Cache
         ensures { result.now ≡ view_of self.now kind }

@@ -15,22 +15,22 @@ use xds_interest::Interest;
 use xds_resource::{Refusal, ResourceType, Write};
 
 // A write that stands, and the number of the change that put it there.
-pub(crate) struct Entry<T: ResourceType> {
+pub(crate) struct StandingWrite<T: ResourceType> {
     pub(crate) write: Write<T>,
     pub(crate) change: u64,
 }
 
 // Written out: docs/PROVING.md, "Drops".
-impl<T: ResourceType> Drop for Entry<T> {
+impl<T: ResourceType> Drop for StandingWrite<T> {
     fn drop(self) {
-        let Entry {
+        let StandingWrite {
             write: _,
             change: _,
         } = self;
     }
 }
 
-impl<T: ResourceType> Model for Entry<T> {
+impl<T: ResourceType> Model for StandingWrite<T> {
     ghost use Rattle.xds_catalogue.specs.Tables.{NumberedWrite, numbered_code};
 
     ghost Value = { NumberedWrite };
@@ -40,7 +40,7 @@ impl<T: ResourceType> Model for Entry<T> {
     ghost view = { λ e. record { write = e.write; change = e.change } };
 }
 
-impl<T: ResourceType> Entry<T> {
+impl<T: ResourceType> StandingWrite<T> {
     pub(crate) fn write(&self) -> &Write<T>
         ensures { result.now ≡ self.now.write }
     {
@@ -54,35 +54,35 @@ impl<T: ResourceType> Entry<T> {
     }
 }
 
-impl<T: ResourceType> Clone for Entry<T> {
+impl<T: ResourceType> Clone for StandingWrite<T> {
     ghost use Rattle.std.specs.Prelude.{◌≡◌};
 
     ghost is_clone = { λ e c. c ≡ e };
 
-    fn clone(&self) -> Result<Entry<T>, AllocError> {
-        Ok(Entry {
+    fn clone(&self) -> Result<StandingWrite<T>, AllocError> {
+        Ok(StandingWrite {
             write: self.write.clone()?,
             change: self.change,
         })
     }
 }
 
-pub(crate) struct Names<T: ResourceType> {
-    by_name: BTreeMap<String, Entry<T>>,
+pub(crate) struct WritesByName<T: ResourceType> {
+    by_name: BTreeMap<String, StandingWrite<T>>,
     alloc: Global,
 }
 
 // Written out: docs/PROVING.md, "Drops".
-impl<T: ResourceType> Drop for Names<T> {
+impl<T: ResourceType> Drop for WritesByName<T> {
     fn drop(self) {
-        let Names {
+        let WritesByName {
             by_name: _,
             alloc: _,
         } = self;
     }
 }
 
-impl<T: ResourceType> Model for Names<T> {
+impl<T: ResourceType> Model for WritesByName<T> {
     ghost use Rattle.xds_catalogue.specs.Tables.{Named, named_code, named_by};
 
     ghost Value = { Named };
@@ -92,17 +92,17 @@ impl<T: ResourceType> Model for Names<T> {
     ghost view = { λ n. named_by n.by_name.entries };
 }
 
-impl<T: ResourceType> Names<T> {
+impl<T: ResourceType> WritesByName<T> {
     pub(crate) fn new(alloc: Global) -> Self
         ensures { result ≡ no_names }
     {
-        Names {
+        WritesByName {
             by_name: BTreeMap::new(alloc),
             alloc,
         }
     }
 
-    pub(crate) fn get(&self, name: &str) -> Option<&Entry<T>>
+    pub(crate) fn get(&self, name: &str) -> Option<&StandingWrite<T>>
         ensures write { option_map (λ e. e.now.write) result ≡ finmap.get self.now.entries name.now }
         ensures change { option_map (λ e. e.now.change) result ≡ finmap.get self.now.latest name.now }
     {
@@ -110,7 +110,7 @@ impl<T: ResourceType> Names<T> {
     }
 
     // Puts an entry under its write's name, whatever stood there.
-    pub(crate) fn put(&mut self, entry: Entry<T>) -> Result<(), Refusal>
+    pub(crate) fn put(&mut self, entry: StandingWrite<T>) -> Result<(), Refusal>
         ensures ok { OnOk result (self.new ≡ with_name self.old entry.write.name entry) }
         ensures err { OnErr result (self.new ≡ self.old) }
         ensures refused { IfErr result (λ e. e ≡ Refusal.OutOfMemory) }
@@ -121,7 +121,7 @@ impl<T: ResourceType> Names<T> {
     }
 
     // Puts back what stood under a name, or nothing. It takes no memory.
-    pub(crate) fn put_back(&mut self, name: &str, former: Option<Entry<T>>)
+    pub(crate) fn put_back(&mut self, name: &str, former: Option<StandingWrite<T>>)
         ensures { self.new ≡ with_former self.old name.now former }
     {
         match former {
@@ -202,11 +202,11 @@ impl<T: ResourceType> Names<T> {
     }
 
     // An equal map, with memory of its own.
-    pub(crate) fn try_copy(&self, alloc: Global) -> Result<Names<T>, Refusal>
+    pub(crate) fn try_copy(&self, alloc: Global) -> Result<WritesByName<T>, Refusal>
         ensures ok { IfOk result (λ n. n ≡ self.now) }
         ensures err { IfErr result (λ e. e ≡ Refusal.OutOfMemory) }
     {
-        Ok(Names {
+        Ok(WritesByName {
             by_name: self.by_name.clone()?,
             alloc,
         })

@@ -9,18 +9,18 @@ use std::marker::Model;
 use std::sync::ArcStr;
 use xds_resource::Refusal;
 
-pub(crate) struct Numbers {
+pub(crate) struct NamesByNumber {
     names: BTreeMap<u64, ArcStr<Global>>,
 }
 
 // Written out: docs/PROVING.md, "Drops".
-impl Drop for Numbers {
+impl Drop for NamesByNumber {
     fn drop(self) {
-        let Numbers { names: _ } = self;
+        let NamesByNumber { names: _ } = self;
     }
 }
 
-impl Model for Numbers {
+impl Model for NamesByNumber {
     ghost use Rattle.std.specs.Prelude.{ℕ, List};
     ghost use Rattle.std.specs.Coded.{coded_ℕ, coded_list};
     ghost use Rattle.std.specs.Ordering.{nat_cmp};
@@ -35,11 +35,11 @@ impl Model for Numbers {
     ghost view = { λ n. by_number arc_str_bytes n.names.entries };
 }
 
-impl Numbers {
+impl NamesByNumber {
     pub(crate) fn new(alloc: Global) -> Self
         ensures { result ≡ finmap.empty }
     {
-        Numbers {
+        NamesByNumber {
             names: BTreeMap::new(alloc),
         }
     }
@@ -71,11 +71,11 @@ impl Numbers {
         Some((*number, name.as_str()))
     }
 
-    pub(crate) fn try_copy(&self) -> Result<Numbers, Refusal>
+    pub(crate) fn try_copy(&self) -> Result<NamesByNumber, Refusal>
         ensures ok { IfOk result (λ n. n ≡ self.now) }
         ensures err { IfErr result (λ e. e ≡ Refusal.OutOfMemory) }
     {
-        Ok(Numbers {
+        Ok(NamesByNumber {
             names: self.names.clone()?,
         })
     }

@@ -6,8 +6,8 @@ ghost use Rattle.xds_resource.specs.Stamps.{max_counter};
 ghost use Rattle.xds_catalogue.specs.Changes.{surpasses};
 ghost use Rattle.xds_catalogue.specs.Tables.{no_tables, with_write, without_number, taken_back, with_counts, IsPutAside};
 
-use crate::names::{Entry, Names};
-use crate::numbers::Numbers;
+use crate::names::{StandingWrite, WritesByName};
+use crate::numbers::NamesByNumber;
 use std::alloc::Global;
 use std::cmp::Ordering;
 use std::marker::Model;
@@ -15,8 +15,8 @@ use std::sync::ArcStr;
 use xds_resource::{Refusal, ResourceType, Write};
 
 pub(crate) struct Tables<T: ResourceType> {
-    names: Names<T>,
-    numbers: Numbers,
+    names: WritesByName<T>,
+    numbers: NamesByNumber,
     changes: u64,
     // The greatest counter of a write that stands, or 0.
     greatest: u64,
@@ -49,7 +49,7 @@ impl<T: ResourceType> Model for Tables<T> {
 pub(crate) struct Displaced<T: ResourceType> {
     name: ArcStr<Global>,
     number: u64,
-    former: Option<Entry<T>>,
+    former: Option<StandingWrite<T>>,
 }
 
 impl<T: ResourceType> Model for Displaced<T> {
@@ -80,20 +80,20 @@ impl<T: ResourceType> Tables<T> {
         ensures { result ≡ no_tables }
     {
         Tables {
-            names: Names::new(alloc),
-            numbers: Numbers::new(alloc),
+            names: WritesByName::new(alloc),
+            numbers: NamesByNumber::new(alloc),
             changes: 0,
             greatest: 0,
         }
     }
 
-    pub(crate) fn names(&self) -> &Names<T>
+    pub(crate) fn names(&self) -> &WritesByName<T>
         ensures { result.now ≡ self.now.named }
     {
         &self.names
     }
 
-    pub(crate) fn numbers(&self) -> &Numbers
+    pub(crate) fn numbers(&self) -> &NamesByNumber
         ensures { result.now ≡ self.now.numbers }
     {
         &self.numbers
@@ -166,7 +166,7 @@ impl<T: ResourceType> Tables<T> {
         let counter = write.stamp().counter;
         let name = write.shared_name()?;
         self.numbers.insert(change, name)?;
-        if let Err(refusal) = self.names.put(Entry { write, change }) {
+        if let Err(refusal) = self.names.put(StandingWrite { write, change }) {
             self.numbers.remove(change);
             return Err(refusal);
         }

@@ -14,7 +14,7 @@ use serde_json::Value;
 use std::alloc::Global;
 use std::str;
 use xds_resource::Refusal;
-use xds_world::command::Verb;
+use xds_world::command::CommandVerb;
 
 /// What is wrong of a line of a script that is bad, its line feed aside, in words. Refused only by `OutOfMemory`.
 pub fn script_cause(alloc: Global, line: &[u8]) -> Result<String, Refusal>
@@ -45,7 +45,7 @@ fn unchanged_cause(alloc: Global, word: &str) -> Result<String, Refusal>
     ensures told { IfOk result (λ t. string_bytes t ≡ unchanged_text word.now) }
     ensures refused { IfErr result (λ e. e ≡ OutOfMemory) }
 {
-    match Verb::from_word(word) {
+    match CommandVerb::from_word(word) {
         Some(_) => wrong_words(alloc, word),
         None => unknown_verb(alloc, word),
     }

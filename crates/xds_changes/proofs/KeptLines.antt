@@ -12,8 +12,8 @@ use Rattle.xds_resource.specs.declared.refusal.Refusal.TheVariants.{TooLong}
 use Rattle.xds_world.specs.Lines.{feed, pieces}
 use Rattle.xds_changes.specs.declared.change.Change.{Change}
 use Rattle.xds_notes.specs.declared.fault.Fault.{Fault}
-use Rattle.xds_changes.specs.declared.kept.Kept.{Kept}
-use Rattle.xds_changes.specs.declared.kept.Said.{Said}
+use Rattle.xds_changes.specs.declared.said_lines.Kept.{Kept}
+use Rattle.xds_changes.specs.declared.said_lines.SaidLine.{SaidLine}
 use Rattle.xds_changes.specs.Changes.{Written, change_in, change_of, most_line}
 use Rattle.xds_changes.specs.Handing.{line_after}
 use Rattle.xds_changes.specs.HeldLines.{held_of, HasHeld, IsSaid, IsSaidBy, next_line}
@@ -95,7 +95,7 @@ module _ {S : Type 0} (hands : S → S → Written → Type 0) (refuses : S → 
   said_what s t number bytes line (Err f) same (inl memory, why) handed = inr (subst (refuses s t number) memory handed)
   said_what s t number bytes line (Err f) same (inr is, why) handed = inl (subst (KeepsChange hands refuses s t number) (sym is ∙ same) handed)
 
-  said_by : (s t : S) (number : ℕ) (bytes line : List ℕ) (lost : Bool) (said : Said) → (lost ≡ true) ⊎ (bytes ≡ held_of line) → IsSaid bytes lost number said
+  said_by : (s t : S) (number : ℕ) (bytes line : List ℕ) (lost : Bool) (said : SaidLine) → (lost ≡ true) ⊎ (bytes ≡ held_of line) → IsSaid bytes lost number said
       → HandsSaid hands refuses s t said → KeepsLine hands refuses s t number line
   said_by s t number bytes line true said held is handed =
       let told = subst (λ n. HandsWhat hands refuses s t n said.what) is.0 handed in
@@ -126,7 +126,7 @@ module _ {S : Type 0} (hands : S → S → Written → Type 0) (refuses : S → 
   kept_none s old piece came held = record { ended = []; left = came; bytes_are = refl; held = held; line_is = refl; kept = refl }
 
   -- a line has ended
-  pub kept_more : (s t u : S) (old now mid new : Kept) (piece rest part next : List ℕ) (said : Said) → IsKeptTo s t old now piece rest
+  pub kept_more : (s t u : S) (old now mid new : Kept) (piece rest part next : List ℕ) (said : SaidLine) → IsKeptTo s t old now piece rest
       → pieces feed rest ≡ part ∷ pieces feed next → HasHeld now.bytes.items now.is_lost part mid.bytes.items mid.is_lost → mid.line ≡ now.line
       → IsSaid mid.bytes.items mid.is_lost mid.line said → new.bytes.items ≡ [] → new.line ≡ next_line mid.line → HandsSaid hands refuses t u said
       → IsKeptTo s u old new piece next
@@ -215,7 +215,7 @@ module _ {S : Type 0} (hands : S → S → Written → Type 0) (refuses : S → 
       }
 
   -- the input is at its end
-  pub input_done : (s t u : S) (before mid after : Option (List ℕ)) (kept : Kept) (said : Said) → IsKeptSoFar s t before mid kept → Consumes mid after [] → IsAtEnd after
+  pub input_done : (s t u : S) (before mid after : Option (List ℕ)) (kept : Kept) (said : SaidLine) → IsKeptSoFar s t before mid kept → Consumes mid after [] → IsAtEnd after
       → IsSaid kept.bytes.items kept.is_lost kept.line said → HandsSaid hands refuses t u said
       → (came : List ℕ) × Consumes before after came × IsAtEnd after × KeepsLines hands refuses s u 1 (pieces feed came)
   input_done s t u before mid after kept said so_far reads at_end is handed =

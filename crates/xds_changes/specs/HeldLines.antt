@@ -8,7 +8,7 @@ use Rattle.std.specs.Prelude.{◌≡◌, ◌⊎◌, ◌+◌, ℕ, List, ◌++◌
 use Rattle.xds_resource.specs.declared.refusal.Refusal.TheVariants.{OutOfMemory}
 use Rattle.xds_changes.specs.declared.change.Change.{Change}
 use Rattle.xds_notes.specs.declared.fault.Fault.{Fault}
-use Rattle.xds_changes.specs.declared.kept.Said.{Said}
+use Rattle.xds_changes.specs.declared.said_lines.SaidLine.{SaidLine}
 use Rattle.xds_notes.specs.Causes.{IsFaultOf}
 use Rattle.xds_changes.specs.Changes.{most_line, change_in, change_of}
 use Rattle.xds_changes.specs.Handing.{line_after}
@@ -29,7 +29,7 @@ IsSaidBy line number (Ok (Some c)) = (change_in line ≡ Ok (Some (change_of c))
 IsSaidBy line number (Err f) = ((f.refusal ≡ OutOfMemory) ⊎ (change_in line ≡ Err f.refusal)) × IsFaultOf line f
 
 -- what a line of this number says, or why it is refused; or there was no memory for it
-abbrev pub IsSaid : List ℕ → Bool → ℕ → Said → Type 0
+abbrev pub IsSaid : List ℕ → Bool → ℕ → SaidLine → Type 0
 IsSaid line true number said = (said.line ≡ number) × (said.what ≡ Err (record { refusal = OutOfMemory; cause = None; long = None }))
 IsSaid line false number said = (said.line ≡ number) × IsSaidBy line number said.what
 

@@ -21,8 +21,8 @@ use Rattle.xds_changes.specs.declared.change.Change.{Change}
 use Rattle.xds_notes.specs.declared.ending.End.{End}
 use Rattle.xds_notes.specs.declared.ending.End.TheVariants.{Refused}
 use Rattle.xds_notes.specs.declared.fault.Fault.{Fault}
-use Rattle.xds_changes.specs.declared.kept.Kept.{Kept}
-use Rattle.xds_changes.specs.declared.kept.Said.{Said}
+use Rattle.xds_changes.specs.declared.said_lines.Kept.{Kept}
+use Rattle.xds_changes.specs.declared.said_lines.SaidLine.{SaidLine}
 use Rattle.xds_changes.specs.Changes.{Written, change_in, change_of}
 use Rattle.xds_changes.specs.Handing.{line_after}
 use Rattle.xds_changes.specs.HeldLines.{held_of}
@@ -33,7 +33,7 @@ HandsWhat hands refuses s t number (Ok None) = t ≡ s
 HandsWhat hands refuses s t number (Ok (Some change)) = hands s t (change_of change)
 HandsWhat hands refuses s t number (Err fault) = refuses s t number fault.refusal
 
-abbrev pub HandsSaid : {S : Type 0} → (S → S → Written → Type 0) → (S → S → ℕ → Refusal → Type 0) → S → S → Said → Type 0
+abbrev pub HandsSaid : {S : Type 0} → (S → S → Written → Type 0) → (S → S → ℕ → Refusal → Type 0) → S → S → SaidLine → Type 0
 HandsSaid hands refuses s t said = HandsWhat hands refuses s t said.line said.what
 
 -- what is made of a line: by what it changes

@@ -4,7 +4,7 @@ ghost use Rattle.xds_changes.specs.Changes.{change_of};
 ghost use Rattle.xds_changes.specs.Handing.{AllHanded, behind, HandsLast, TakesInput};
 
 use crate::change::Change;
-use crate::held::{Held, Taken};
+use crate::held_line::{HeldLine, TakenPiece};
 use crate::order::Order;
 use crossbeam_channel::Sender;
 use std::alloc::Global;
@@ -79,7 +79,7 @@ pub fn take_lines<I: Read, H: Hands, R: Wait>(
 ) -> Result<(), End>
     ensures { TakesInput H.hands hands.old hands.new (I.remaining input.old) (I.remaining input.new) result }
 {
-    let mut held = Held::new(alloc);
+    let mut held = HeldLine::new(alloc);
     let mut line = 1u64;
     for _ in rt.forever() {
         let mut buffer = [0u8; PIECE];
@@ -100,13 +100,13 @@ pub fn take_lines<I: Read, H: Hands, R: Wait>(
 fn take_changes<H: Hands, R: Wait>(
     rt: &R,
     hands: &mut H,
-    taken: Taken,
+    taken: TakenPiece,
     line: u64,
 ) -> Result<u64, End>
     ensures handed { AllHanded H.hands hands.old hands.new (map change_of taken.changes.items) }
     ensures line { result ≡ behind line taken.lines taken.refused }
 {
-    let Taken {
+    let TakenPiece {
         changes,
         lines,
         refused,

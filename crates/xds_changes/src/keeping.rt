@@ -2,8 +2,8 @@
 ghost use Rattle.xds_changes.specs.Keeping.{HandsSaid, KeepsInput, KeepsPiece};
 
 use crate::input::{Hands, Replicas};
-use crate::kept::{Kept, Said};
 use crate::order::Order;
+use crate::said_lines::{Kept, SaidLine};
 use crossbeam_channel::Sender;
 use std::alloc::Global;
 use std::io::{ErrorKind, Read};
@@ -100,10 +100,10 @@ fn keep_piece<H: Keeps, R: Wait>(
 }
 
 // Hands over the change that a line says, or tells that it is refused.
-fn hand_said<H: Keeps, R: Wait>(rt: &R, hands: &mut H, said: Said)
+fn hand_said<H: Keeps, R: Wait>(rt: &R, hands: &mut H, said: SaidLine)
     ensures { HandsSaid H.hands H.refuses hands.old hands.new said }
 {
-    let Said { line, what } = said;
+    let SaidLine { line, what } = said;
     match what {
         Ok(Some(change)) => hands.hand(rt, change),
         Ok(None) => {}

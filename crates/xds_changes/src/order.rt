@@ -7,7 +7,7 @@ use xds_core::{Marks, Reply};
 use xds_message::Batch;
 use xds_notes::Fault;
 use xds_resource::{Refusal, Stamp};
-use xds_stats::Look;
+use xds_stats::ReplicaSizes;
 
 /// What a replica's thread is asked to do.
 #[derive(Drop)]
@@ -17,7 +17,7 @@ pub enum Order {
     /// To make a change, and answer its stamp.
     Asked(Change, Sender<Result<Stamp, Fault>>),
     /// To look at what it holds.
-    Look(Sender<Result<Look, Refusal>>),
+    Look(Sender<Result<ReplicaSizes, Refusal>>),
     /// To answer its counts of changes.
     Marks(Sender<Result<Marks, Refusal>>),
     /// To answer what changed after these counts of changes, and the counts now.

@@ -12,7 +12,7 @@ pub const MAX_WAIT: u64 = 300;
 
 /// What a request for writes asks for.
 #[derive(Clone, Copy)]
-pub struct Wanted {
+pub struct WantedWrites {
     /// The place of the replica, from 1.
     pub replica: u16,
     /// The counts of changes after which writes are wanted.
@@ -21,12 +21,12 @@ pub struct Wanted {
     pub wait: u64,
 }
 
-impl Wanted {
+impl WantedWrites {
     /// All writes of the first replica, at once.
-    pub fn any() -> Wanted
+    pub fn any() -> WantedWrites
         ensures { result ≡ any_writes }
     {
-        Wanted {
+        WantedWrites {
             replica: 1,
             since: Marks {
                 cluster: 0,
@@ -40,7 +40,7 @@ impl Wanted {
     }
 
     // The same, but for what a part of a query says.
-    fn with(self, part: &str) -> Option<Wanted>
+    fn with(self, part: &str) -> Option<WantedWrites>
         ensures { result ≡ with_part self part.now }
     {
         let (key, value) = split_first(Some(part), '=')?;
@@ -73,7 +73,7 @@ fn key_of(name: &str) -> Option<Key>
 }
 
 // The same as is wanted, but for the value of a key.
-fn with_key(wanted: Wanted, key: Key, value: &str) -> Option<Wanted>
+fn with_key(wanted: WantedWrites, key: Key, value: &str) -> Option<WantedWrites>
     ensures { result ≡ with_key wanted key value.now }
 {
     let mut wanted = wanted;
@@ -100,14 +100,14 @@ fn wait_in(value: &str) -> Option<u64>
 }
 
 /// What a query asks for: parts `replica=K`, `since=MARKS` and `wait=SECONDS` in any order, with `&` between each two; of two of one
-/// name the last counts, and what isn't there is as in [`Wanted::any`]. None for any other query.
-pub fn read_wanted(query: &str) -> Option<Wanted>
+/// name the last counts, and what isn't there is as in [`WantedWrites::any`]. None for any other query.
+pub fn read_wanted(query: &str) -> Option<WantedWrites>
     ensures { result ≡ wanted_in query.now }
 {
     if query.is_empty() {
-        return Some(Wanted::any());
+        return Some(WantedWrites::any());
     }
-    let mut wanted = Wanted::any();
+    let mut wanted = WantedWrites::any();
     let mut left = Some(query);
     while let Some((part, rest)) = split_first(left, '&') {
         wanted = wanted.with(part)?;

@@ -25,7 +25,7 @@ use Rattle.xds_check.specs.Answers.{Answer, stated_names}
 use Rattle.xds_check.specs.Lines.{standing, live, interest, is_used, cluster_on, has_asked, taken, sent, is_pending, refused_offer, offer_at, speaks_delta, mentions, is_mentioned, is_covered_as}
 use Rattle.xds_check.specs.Lines as said
 use Rattle.xds_check.specs.Rules.{place, is_put_by, HasReusedNonce, BreaksBestResources, StatesUncovered, LacksAName, RemovesShown, IsSecondAtATime, OffersRefused, LeavesPending, BreaksAtResponse}
-use Rattle.xds_check.specs.Kept.{Talk, Marks, is_marked, wanted, is_reused, breaks_best_resources, states_uncovered, lacks_one, lacks_a_name, is_shown_in, removes_shown, offers_refused, is_missed, none_missed, least}
+use Rattle.xds_check.specs.Kept.{StreamTalk, Marks, is_marked, wanted, is_reused, breaks_best_resources, states_uncovered, lacks_one, lacks_a_name, is_shown_in, removes_shown, offers_refused, is_missed, none_missed, least}
 use Rattle.xds_check.proofs.Talking.{wanted_is, stands_waits, stands_refused}
 use Rattle.xds_check.proofs.Lining.{IsSpokenBy, offer_same}
 
@@ -281,7 +281,7 @@ refused_case o (Some r) = (
 
 -- ---- the rules of a response
 
-module _ (s : ℕ) (e : List Line) (held : Entries) (k : Talk) (a : Answer) (spoken : IsSpokenBy s a.kind e k) (same : (q : List ℕ) → finmap.get held q ≡ standing a.kind e q) (catalogue : IsCatalogue held) where
+module _ (s : ℕ) (e : List Line) (held : Entries) (k : StreamTalk) (a : Answer) (spoken : IsSpokenBy s a.kind e k) (same : (q : List ℕ) → finmap.get held q ≡ standing a.kind e q) (catalogue : IsCatalogue held) where
   want : wanted k ≡ interest s a.kind e
   want = wanted_is a.kind (cluster_on s e) (has_asked s a.kind e) (taken s a.kind e) (sent s a.kind e) (is_pending s a.kind e) (is_used s e) k spoken
 
@@ -338,7 +338,7 @@ mark_there : (m : Marks) (q : List ℕ) (o : Option Bool) → finmap.get m q ≡
 mark_there m q None has marked = never (sym marked ∙ ap (λ o. unwrap_or o false) has)
 mark_there m q (Some b) has marked = (b, has)
 
-module _ (s : ℕ) (t : TypeName) (e : List Line) (held : Entries) (k : Talk) (spoken : IsSpokenBy s t e k) (same : (q : List ℕ) → finmap.get held q ≡ standing t e q) where
+module _ (s : ℕ) (t : TypeName) (e : List Line) (held : Entries) (k : StreamTalk) (spoken : IsSpokenBy s t e k) (same : (q : List ℕ) → finmap.get held q ≡ standing t e q) where
   speaks : k.delta.begun ≡ speaks_delta s t e
   speaks = ap (λ (x : Asked). x.begun) spoken.delta ∙ kept_begun t (unwrap_or (cluster_on s e) []) (mentions (taken s t e))
 

@@ -15,7 +15,7 @@ mod Talking
 mod Lining
 mod Deciding
 mod Passing
-mod Hearing
-mod Living
+mod StreamChanges
+mod LiveNames
 mod LineByLine
 mod PieceByPiece

@@ -16,13 +16,13 @@ use Rattle.xds_check.specs.declared.line.Line.TheVariants as lines
 use Rattle.xds_check.specs.declared.rule.Rule.{Rule}
 use Rattle.xds_check.specs.Checkers.{most_lines, IsJudged, HasTaken}
 use Rattle.xds_check.specs.Judges.{JudgeKept, nothing_judged, without_stream, let_go_after, TellsOfAll, IsJudgeOf, AreJudgesOf, any_stream, is_left}
-use Rattle.xds_check.specs.Kept.{Talk, unheard}
+use Rattle.xds_check.specs.Kept.{StreamTalk, unheard}
 use Rattle.xds_check.specs.Orders.{OrderKept, IsOrderOf, nothing_kept, kept_after, may_follow_in}
 use Rattle.xds_check.specs.Rules.{Breaks, AllKeep, NoneBroken, FirstBroken}
 use Rattle.xds_check.specs.Streams.{open_on, is_open, may_follow}
 use Rattle.xds_check.specs.Verdicts.{IsVerdict}
 use Rattle.xds_check.proofs.Deciding.{TellsLeast}
-use Rattle.xds_check.proofs.Hearing.{elsewhere}
+use Rattle.xds_check.proofs.StreamChanges.{elsewhere}
 use Rattle.xds_check.proofs.Orderly.{nothing_yet, order_after, follows_same}
 use Rattle.xds_check.proofs.Passing.{IsCounted, any_counted, broken_here, kept_here, judge_more, judge_first, few_changes, reverse-push}
 
@@ -141,7 +141,7 @@ closed e r t j of = record {
   held = of.held;
   talks = λ s left.
       let parts = left_closed s r e (r == s) refl left in
-      ap (λ (o : Option Talk). unwrap_or o unheard) (elsewhere j.talks r s parts.0) ∙ of.talks s parts.1;
+      ap (λ (o : Option StreamTalk). unwrap_or o unheard) (elsewhere j.talks r s parts.0) ∙ of.talks s parts.1;
   live = of.live;
 }
 

@@ -29,10 +29,10 @@ use Rattle.xds_check.specs.Lines.{write_at, writes_in, standing, sent, is_waitin
 use Rattle.xds_check.specs.Judges.{JudgeKept, nothing_judged, IsTakenIn, TellsLine, held_by, talk_by, IsJudgeOf, AreJudgesOf, any_stream}
 use Rattle.xds_check.specs.LiveNames.{AreLive, no_names}
 use Rattle.xds_check.specs.Rules.{place, Breaks, BreaksAtResponse, BreaksAtIdle, KeepsRules, AllKeep, LeavesPending}
-use Rattle.xds_check.specs.Kept.{Talk, Talks, unheard, talk_at, broken_in, least, none_missed, held_after, heard, IsHeard}
+use Rattle.xds_check.specs.Kept.{StreamTalk, Talks, unheard, talk_at, broken_in, least, none_missed, held_after, heard, IsHeard}
 use Rattle.xds_check.proofs.Deciding.{TellsLeast, never, judged, one_missed, none_pending}
 use Rattle.xds_check.proofs.Lining.{IsSpokenBy, IsQuiet, heard_spoken, kind_told}
-use Rattle.xds_check.proofs.Living.{none_live}
+use Rattle.xds_check.proofs.LiveNames.{none_live}
 use Rattle.xds_check.proofs.Talking.{unheard_spoken}
 
 -- ---- the writes
@@ -184,7 +184,7 @@ idle_least e s t OneAtATime lt = λ b. b
 idle_least e s t NothingRefusedAgain lt = λ b. b
 idle_least e s t NothingPending lt = absurd (omega (arith, lt))
 
-idle_case : (t : TypeName) (e : List Line) (h : Holdings) (k : Talk) (s : ℕ) (none : Bool) → none_missed h.entries k ≡ none → IsHeldBy t e h → IsSpokenBy s t e k
+idle_case : (t : TypeName) (e : List Line) (h : Holdings) (k : StreamTalk) (s : ℕ) (none : Bool) → none_missed h.entries k ≡ none → IsHeldBy t e h → IsSpokenBy s t e k
     → TellsLeast (λ r. BreaksAtIdle r e s t) (if none then None else Some NothingPending)
 idle_case t e h k s true is held spoken = idle_keeps e s t (none_pending s t e h.entries k spoken (standing_is t e h held) is)
 idle_case t e h k s false is held spoken = (one_missed s t e h.entries k spoken (standing_is t e h held) is, idle_least e s t)
@@ -259,7 +259,7 @@ tells t l old new (Err e) broken hears holds live = tt
 pub judge_first : (Counts : ℕ → Type 0) (t : TypeName) → IsJudgeOf Counts t [] nothing_judged
 judge_first Counts t = record {
   held = refl;
-  talks = λ s counts. ap (λ (o : Option Talk). unwrap_or o unheard) (finmap.get-empty nat_cmp s);
+  talks = λ s counts. ap (λ (o : Option StreamTalk). unwrap_or o unheard) (finmap.get-empty nat_cmp s);
   live = none_live nothing_held no_names refl refl;
 }
 

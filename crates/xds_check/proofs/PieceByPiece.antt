@@ -14,7 +14,7 @@ use Rattle.xds_check.specs.Checkers.{HasTaken, TakesText, HasRead, IsVerdictOf}
 use Rattle.xds_check.specs.Streams.{may_follow}
 use Rattle.xds_check.specs.Texts.{SayAll, ended, IsOneLine, IsBad, IsFirstBad, IsRefusedAt}
 use Rattle.xds_check.specs.Verdicts.{IsVerdict}
-use Rattle.xds_check.proofs.Hearing.{nothing_in}
+use Rattle.xds_check.proofs.StreamChanges.{nothing_in}
 use Rattle.xds_check.proofs.Traces.{ended-more, say-more}
 
 -- ---- texts

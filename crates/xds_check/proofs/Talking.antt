@@ -20,7 +20,7 @@ use Rattle.xds_check.specs.Answers.{Answer, nonce_of, rejects, lists_in, mention
 use Rattle.xds_check.specs.Lines as lines
 use Rattle.xds_check.specs.Lines.{Sent, Unanswered, Accepted, Refused, is_unanswered, answered_by, is_waiting, last_nonce, refused_after, refused_offer, lists, mentions, interest_of, pending_taken, tells}
 use Rattle.xds_ledger.specs.Stale as stale
-use Rattle.xds_check.specs.Kept.{Talk, unheard, wanted, introduced, is_stale, is_marked, with_taken, is_answer, answered, begun_now, requested, with_nonce, responded, offer_in}
+use Rattle.xds_check.specs.Kept.{StreamTalk, unheard, wanted, introduced, is_stale, is_marked, with_taken, is_answer, answered, begun_now, requested, with_nonce, responded, offer_in}
 use Rattle.xds_check.proofs.Waiting.{listed_waits, mentioned_waits, told_waits}
 
 pub neither : (a b : Bool) → (a || b) ≡ false → (a ≡ false) × (b ≡ false)
@@ -115,7 +115,7 @@ settles true m (r ∷ rs) last (Some o) refused l stands is =
 
 -- what is kept of a stream, by what the lines say: its client's cluster, whether there was a request of the type, the requests that
 -- were taken, the responses, the names that wait and the nonces that were used
-pub record IsSpoken (t : TypeName) (cluster : Option (List ℕ)) (begun : Bool) (requests : List Asking) (responses : List Sent) (pends uses : List ℕ → Bool) (k : Talk) : Type 0 where
+pub record IsSpoken (t : TypeName) (cluster : Option (List ℕ)) (begun : Bool) (requests : List Asking) (responses : List Sent) (pends uses : List ℕ → Bool) (k : StreamTalk) : Type 0 where
   pub known : k.known ≡ is_some cluster
   pub begun_is : k.begun ≡ begun
   pub sotw : k.sotw ≡ sotw_kept t (unwrap_or cluster []) (lists requests)
@@ -149,7 +149,7 @@ wanted_of : (t : TypeName) (c : List ℕ) (requests : List Asking) (ms : List Me
 wanted_of t c requests [] = wanted_by_lists t c requests (lists requests) refl
 wanted_of t c requests (m ∷ ms) = refl
 
-pub wanted_is : (t : TypeName) (cluster : Option (List ℕ)) (begun : Bool) (requests : List Asking) (responses : List Sent) (pends uses : List ℕ → Bool) (k : Talk)
+pub wanted_is : (t : TypeName) (cluster : Option (List ℕ)) (begun : Bool) (requests : List Asking) (responses : List Sent) (pends uses : List ℕ → Bool) (k : StreamTalk)
     → IsSpoken t cluster begun requests responses pends uses k → wanted k ≡ in_cluster (unwrap_or cluster []) (interest_of t requests (mentions requests))
 wanted_is t cluster begun requests responses pends uses k s =
     (λ i. if (s.delta i).begun then (s.delta i).interest else (s.sotw i).interest) ∙ wanted_of t (unwrap_or cluster []) requests (mentions requests)
@@ -158,7 +158,7 @@ wanted_is t cluster begun requests responses pends uses k s =
 
 -- rule: groups
 -- the client makes itself known
-pub introduced_spoken : (t : TypeName) (cluster : Option (List ℕ)) (c : List ℕ) (begun : Bool) (requests : List Asking) (responses : List Sent) (pends uses : List ℕ → Bool) (k : Talk)
+pub introduced_spoken : (t : TypeName) (cluster : Option (List ℕ)) (c : List ℕ) (begun : Bool) (requests : List Asking) (responses : List Sent) (pends uses : List ℕ → Bool) (k : StreamTalk)
     → IsSpoken t cluster begun requests responses pends uses k → IsSpoken t (option_or cluster (Some c)) begun requests responses pends uses (introduced c k)
 introduced_spoken t (Some d) c begun requests responses pends uses k s =
     subst (λ (b : Bool). IsSpoken t (Some d) begun requests responses pends uses (if b then k else record k { known = true; sotw = unasked c; delta = unasked c })) (sym s.known) s
@@ -179,7 +179,7 @@ introduced_spoken t None c begun requests responses pends uses k s =
 
 -- rule: listed-names, rule: delta-names
 -- a request is taken
-pub taken_spoken : (t : TypeName) (c : List ℕ) (begun : Bool) (requests : List Asking) (responses : List Sent) (pends uses : List ℕ → Bool) (k : Talk) (old : Selection) (m : Asking)
+pub taken_spoken : (t : TypeName) (c : List ℕ) (begun : Bool) (requests : List Asking) (responses : List Sent) (pends uses : List ℕ → Bool) (k : StreamTalk) (old : Selection) (m : Asking)
     → IsSpoken t (Some c) begun requests responses pends uses k → (wanted k).names ≡ old.names
     → IsSpoken t (Some c) begun (requests ++ m ∷ []) responses (λ name. pending_taken t begun old m name (pends name)) uses (with_taken t m k)
 taken_spoken t c begun requests responses pends uses k old (Sotw q) s names = record {
@@ -207,7 +207,7 @@ taken_spoken t c begun requests responses pends uses k old (Delta q) s names = r
 }
 
 -- a request answers the response, or none
-settled_case : (t : TypeName) (cluster : Option (List ℕ)) (begun : Bool) (requests : List Asking) (responses : List Sent) (pends uses : List ℕ → Bool) (k : Talk) (m : Asking) (b : Bool)
+settled_case : (t : TypeName) (cluster : Option (List ℕ)) (begun : Bool) (requests : List Asking) (responses : List Sent) (pends uses : List ℕ → Bool) (k : StreamTalk) (m : Asking) (b : Bool)
     → is_answer k m ≡ b → IsSpoken t cluster begun requests responses pends uses k
     → IsSpoken t cluster begun requests (answered_list begun m responses) pends uses (if b then record k { unanswered = None; refused = if rejects m then k.unanswered else None } else k)
 settled_case t cluster begun requests responses pends uses k m true is s =
@@ -228,22 +228,22 @@ settled_case t cluster begun requests responses pends uses k m false is s =
     (sym (unsettled begun m responses k.last k.unanswered k.refused s.last s.stands (sym (ap (λ b. answers_open b m k.last k.unanswered) s.begun_is) ∙ is))) s
 
 -- rule: accept-reject
-pub answered_spoken : (t : TypeName) (cluster : Option (List ℕ)) (begun : Bool) (requests : List Asking) (responses : List Sent) (pends uses : List ℕ → Bool) (k : Talk) (m : Asking)
+pub answered_spoken : (t : TypeName) (cluster : Option (List ℕ)) (begun : Bool) (requests : List Asking) (responses : List Sent) (pends uses : List ℕ → Bool) (k : StreamTalk) (m : Asking)
     → IsSpoken t cluster begun requests responses pends uses k → IsSpoken t cluster begun requests (answered_list begun m responses) pends uses (answered m k)
 answered_spoken t cluster begun requests responses pends uses k m s = settled_case t cluster begun requests responses pends uses k m (is_answer k m) refl s
 
-begun_spoken : (t : TypeName) (cluster : Option (List ℕ)) (begun : Bool) (requests : List Asking) (responses : List Sent) (pends uses : List ℕ → Bool) (k : Talk)
+begun_spoken : (t : TypeName) (cluster : Option (List ℕ)) (begun : Bool) (requests : List Asking) (responses : List Sent) (pends uses : List ℕ → Bool) (k : StreamTalk)
     → IsSpoken t cluster begun requests responses pends uses k → IsSpoken t cluster true requests responses pends uses (begun_now k)
 begun_spoken t cluster begun requests responses pends uses k s =
     record { known = s.known; begun_is = refl; sotw = s.sotw; delta = s.delta; strange = s.strange; last = s.last; stands = s.stands; waiting = s.waiting; used = s.used }
 
 -- rule: stale-nonce
-ignored_same : (t : TypeName) (cluster : Option (List ℕ)) (begun : Bool) (requests : List Asking) (responses : List Sent) (pends uses : List ℕ → Bool) (k : Talk) (m : Asking)
+ignored_same : (t : TypeName) (cluster : Option (List ℕ)) (begun : Bool) (requests : List Asking) (responses : List Sent) (pends uses : List ℕ → Bool) (k : StreamTalk) (m : Asking)
     → IsSpoken t cluster begun requests responses pends uses k → is_stale k m ≡ lines.is_stale begun responses m
 ignored_same t cluster begun requests responses pends uses k m s =
     (λ i. stale.is_stale (s.begun_is i) (not (stands_waits responses k.unanswered k.refused s.stands i)) (s.last i) (nonce_of m))
 
-requested_case : (t : TypeName) (c : List ℕ) (begun : Bool) (requests : List Asking) (responses : List Sent) (pends uses : List ℕ → Bool) (k : Talk) (old : Selection) (m : Asking) (b : Bool)
+requested_case : (t : TypeName) (c : List ℕ) (begun : Bool) (requests : List Asking) (responses : List Sent) (pends uses : List ℕ → Bool) (k : StreamTalk) (old : Selection) (m : Asking) (b : Bool)
     → IsSpoken t (Some c) begun requests responses pends uses k → (wanted k).names ≡ old.names
     → IsSpoken t (Some c) true (if b then requests else requests ++ m ∷ []) (answered_list begun m responses) (λ name. if b then pends name else pending_taken t begun old m name (pends name)) uses
     (begun_now (answered m (if b then k else with_taken t m k)))
@@ -256,7 +256,7 @@ requested_case t c begun requests responses pends uses k old m false s names =
 
 -- rule: stale-nonce
 -- a request of the type
-pub requested_spoken : (t : TypeName) (c : List ℕ) (begun : Bool) (requests : List Asking) (responses : List Sent) (pends uses : List ℕ → Bool) (k : Talk) (old : Selection) (m : Asking)
+pub requested_spoken : (t : TypeName) (c : List ℕ) (begun : Bool) (requests : List Asking) (responses : List Sent) (pends uses : List ℕ → Bool) (k : StreamTalk) (old : Selection) (m : Asking)
     → IsSpoken t (Some c) begun requests responses pends uses k → (wanted k).names ≡ old.names
     → IsSpoken t (Some c) true (if lines.is_stale begun responses m then requests else requests ++ m ∷ []) (answered_list begun m responses)
     (λ name. if lines.is_stale begun responses m then pends name else pending_taken t begun old m name (pends name)) uses (requested t m k)
@@ -271,7 +271,7 @@ used_case false o = refl
 
 -- rule: new-nonce
 -- a nonce is used
-pub nonce_spoken : (t : TypeName) (cluster : Option (List ℕ)) (begun : Bool) (requests : List Asking) (responses : List Sent) (pends uses : List ℕ → Bool) (k : Talk) (nonce : List ℕ)
+pub nonce_spoken : (t : TypeName) (cluster : Option (List ℕ)) (begun : Bool) (requests : List Asking) (responses : List Sent) (pends uses : List ℕ → Bool) (k : StreamTalk) (nonce : List ℕ)
     → IsSpoken t cluster begun requests responses pends uses k → IsSpoken t cluster begun requests responses pends (λ q. bytes_eq nonce q || uses q) (with_nonce nonce k)
 nonce_spoken t cluster begun requests responses pends uses k nonce s = record {
   known = s.known;
@@ -286,7 +286,7 @@ nonce_spoken t cluster begun requests responses pends uses k nonce s = record {
 }
 
 -- a response of the type, where none before it is unanswered
-pub responded_spoken : (t : TypeName) (cluster : Option (List ℕ)) (begun : Bool) (requests : List Asking) (responses : List Sent) (pends uses : List ℕ → Bool) (k : Talk) (held : Entries) (offer : Offer) (a : Answer)
+pub responded_spoken : (t : TypeName) (cluster : Option (List ℕ)) (begun : Bool) (requests : List Asking) (responses : List Sent) (pends uses : List ℕ → Bool) (k : StreamTalk) (held : Entries) (offer : Offer) (a : Answer)
     → IsSpoken t cluster begun requests responses pends uses k → is_waiting responses ≡ false → offer ≡ offer_in held a
     → IsSpoken t cluster begun requests (record { nonce = a.nonce; offer = offer; fate = Unanswered } ∷ responses) (λ name. pends name && not (tells a name)) uses (responded held a k)
 responded_spoken t cluster begun requests responses pends uses k held offer a s quiet made = record {

@@ -24,7 +24,7 @@ use Rattle.xds_catalogue.specs.Holdings.{Holdings, holdings_code, nothing_held}
 use Rattle.xds_check.specs.declared.line.Line.{Line}
 use Rattle.xds_check.specs.declared.line.Line.TheVariants as lines
 use Rattle.xds_check.specs.declared.rule.Rule.{Rule}
-use Rattle.xds_check.specs.Kept.{Talk, Talks, talk_code, unheard, talk_at, broken_in, held_after, heard, IsHeard}
+use Rattle.xds_check.specs.Kept.{StreamTalk, Talks, talk_code, unheard, talk_at, broken_in, held_after, heard, IsHeard}
 use Rattle.xds_check.specs.LiveNames.{LiveNames, live_names_code, no_names, AreLive}
 use Rattle.xds_check.specs.Streams.{open_on}
 
@@ -85,7 +85,7 @@ held_by t [] = nothing_held
 held_by t (l ∷ earlier) = held_after t l (held_by t earlier)
 
 -- what some lines say of a stream, of a type
-abbrev pub talk_by : TypeName → ℕ → List Line → Talk
+abbrev pub talk_by : TypeName → ℕ → List Line → StreamTalk
 talk_by t s [] = unheard
 talk_by t s (l ∷ earlier) = heard t (held_by t earlier).entries s l (talk_by t s earlier)
 

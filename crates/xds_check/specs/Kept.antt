@@ -3,7 +3,7 @@
 --     Marks                            names, each with whether it is marked
 --     is_marked                        whether a name is marked
 --     without_each                     without those names of a list of which a test is true
---     Talk, offer_code, marks_code, talk_code  what is kept of a stream, of one type
+--     StreamTalk, offer_code, marks_code, talk_code  what is kept of a stream, of one type
 --     unheard                          the account of a stream of which no line spoke
 --     Talks                            the accounts of all streams, by number
 --     talk_at                          what is kept of a stream
@@ -96,7 +96,7 @@ without_each f m [] = m
 without_each f m (n ∷ ns) = without_each f (if f n then finmap.remove m n else m) ns
 
 -- what is kept of a stream, of one type
-pub record Talk : Type 0 where
+pub record StreamTalk : Type 0 where
   -- whether the client made itself known, by a request of whatever type
   pub known : Bool
   -- whether there was a request of the type
@@ -121,7 +121,7 @@ offer_code = finmap.code (coded_list coded_ℕ) due_code
 abbrev pub marks_code : Coded Marks
 marks_code = finmap.code (coded_list coded_ℕ) coded_bool
 
-abbrev pub talk_code : Coded Talk
+abbrev pub talk_code : Coded StreamTalk
 talk_code =
     code_by (Bool × (Bool × (Asked × (Asked × (Option (List ℕ) × (Option Offer × (Option Offer × (Marks × Marks))))))))
     (coded× coded_bool (coded× coded_bool (coded× asked_code (coded× asked_code (coded× (coded_option (coded_list coded_ℕ)) (coded× (coded_option offer_code) (coded× (coded_option offer_code) (coded× marks_code marks_code))))))))
@@ -129,30 +129,30 @@ talk_code =
     (λ p. record { known = p.0; begun = p.1.0; sotw = p.1.1.0; delta = p.1.1.1.0; last = p.1.1.1.1.0; unanswered = p.1.1.1.1.1.0; refused = p.1.1.1.1.1.1.0; waiting = p.1.1.1.1.1.1.1.0; used = p.1.1.1.1.1.1.1.1 }) (λ _. refl)
 
 -- of a stream of which no line spoke
-abbrev pub unheard : Talk
+abbrev pub unheard : StreamTalk
 unheard = record { known = false; begun = false; sotw = unasked []; delta = unasked []; last = None; unanswered = None; refused = None; waiting = finmap.empty; used = finmap.empty }
 
 abbrev pub Talks : Type 0
-Talks = finmap.FinMap nat_cmp Talk
+Talks = finmap.FinMap nat_cmp StreamTalk
 
 -- what is kept of a stream
-abbrev pub talk_at : Talks → ℕ → Talk
+abbrev pub talk_at : Talks → ℕ → StreamTalk
 talk_at talks s = unwrap_or (finmap.get talks s) unheard
 
 -- what the client wants
-abbrev pub wanted : Talk → Selection
+abbrev pub wanted : StreamTalk → Selection
 wanted k = if k.delta.begun then k.delta.interest else k.sotw.interest
 
 -- ---- requests
 
 -- rule: groups
 -- once the client made itself known, as one of this cluster
-abbrev pub introduced : List ℕ → Talk → Talk
+abbrev pub introduced : List ℕ → StreamTalk → StreamTalk
 introduced cluster k = if k.known then k else record k { known = true; sotw = unasked cluster; delta = unasked cluster }
 
 -- rule: stale-nonce
 -- whether the nonce of a request is stale, so that the request is ignored
-abbrev pub is_stale : Talk → Asking → Bool
+abbrev pub is_stale : StreamTalk → Asking → Bool
 is_stale k m = stale.is_stale k.begun (not (is_some k.unanswered)) k.last (nonce_of m)
 
 -- rule: awaited-names
@@ -181,40 +181,40 @@ mentioned_marks t begun m before =
 
 -- rule: awaited-names
 -- the names that wait once a request is taken
-abbrev pub waiting_after : TypeName → Talk → Asking → Marks
+abbrev pub waiting_after : TypeName → StreamTalk → Asking → Marks
 waiting_after t k (Sotw m) = listed_marks t (wanted k) k.waiting m.resource_names
 waiting_after t k (Delta m) = mentioned_marks t k.begun m k.waiting
 
 -- rule: listed-names, rule: delta-names
-abbrev pub with_asked : TypeName → Talk → Asking → Talk
+abbrev pub with_asked : TypeName → StreamTalk → Asking → StreamTalk
 with_asked t k (Sotw m) = record k { sotw = sotw_asked t k.sotw m.resource_names }
 with_asked t k (Delta m) = record k { delta = delta_asked t k.delta (mention_in m) }
 
 -- once a request is taken
-abbrev pub with_taken : TypeName → Asking → Talk → Talk
+abbrev pub with_taken : TypeName → Asking → StreamTalk → StreamTalk
 with_taken t m k = record (with_asked t k m) { waiting = waiting_after t k m }
 
 -- rule: accept-reject
 -- whether a request answers the response that is unanswered
-abbrev pub is_answer : Talk → Asking → Bool
+abbrev pub is_answer : StreamTalk → Asking → Bool
 is_answer k m = k.begun && is_some k.unanswered && option_map_or (bytes_eq (nonce_of m)) k.last false
 
 -- rule: accept-reject, rule: refused-offer
 -- once the response is answered, if the request does that
-abbrev pub answered : Asking → Talk → Talk
+abbrev pub answered : Asking → StreamTalk → StreamTalk
 answered m k =
     if is_answer k m then record k { unanswered = None; refused = if rejects m then k.unanswered else None } else k
 
-abbrev pub begun_now : Talk → Talk
+abbrev pub begun_now : StreamTalk → StreamTalk
 begun_now k = record k { begun = true }
 
 -- rule: stale-nonce
 -- once a request of the type came
-abbrev pub requested : TypeName → Asking → Talk → Talk
+abbrev pub requested : TypeName → Asking → StreamTalk → StreamTalk
 requested t m k = begun_now (answered m (if is_stale k m then k else with_taken t m k))
 
 -- once a request of whatever type came
-abbrev pub asked : TypeName → Asking → Talk → Talk
+abbrev pub asked : TypeName → Asking → StreamTalk → StreamTalk
 asked t m k = if is_of t m then requested t m (introduced (cluster_of m) k) else introduced (cluster_of m) k
 
 -- ---- responses
@@ -236,22 +236,22 @@ unmarked m names = without_each (λ _. true) m names
 
 -- rule: awaited-names, rule: one-unanswered
 -- once a response of the type was sent
-abbrev pub responded : Entries → Answer → Talk → Talk
+abbrev pub responded : Entries → Answer → StreamTalk → StreamTalk
 responded m a k = record k { last = Some a.nonce; unanswered = Some (offer_in m a); waiting = unmarked (unmarked k.waiting (stated_names a)) a.removed }
 
 -- rule: new-nonce
-abbrev pub with_nonce : List ℕ → Talk → Talk
+abbrev pub with_nonce : List ℕ → StreamTalk → StreamTalk
 with_nonce nonce k = record k { used = finmap.insert k.used nonce true }
 
 -- rule: new-nonce
 -- once a response of whatever type was sent
-abbrev pub told : TypeName → Entries → Answer → Talk → Talk
+abbrev pub told : TypeName → Entries → Answer → StreamTalk → StreamTalk
 told t m a k = if is_same_type a.kind t then responded m a (with_nonce a.nonce k) else with_nonce a.nonce k
 
 -- ---- lines
 
 -- what is kept of a stream after a line
-abbrev pub heard : TypeName → Entries → ℕ → Line → Talk → Talk
+abbrev pub heard : TypeName → Entries → ℕ → Line → StreamTalk → StreamTalk
 heard t m s (lines.Write w) k = k
 heard t m s (lines.Open r) k = k
 heard t m s (lines.Close r) k = k
@@ -263,7 +263,7 @@ heard t m s (lines.Idle r u) k = k
 
 -- rule: new-nonce
 -- whether a response has no nonce, or one that was used before
-abbrev pub is_reused : Talk → List ℕ → Bool
+abbrev pub is_reused : StreamTalk → List ℕ → Bool
 is_reused k nonce = bytes_eq nonce [] || is_some (finmap.get k.used nonce)
 
 -- rule: best-writes
@@ -303,7 +303,7 @@ abbrev pub removes_shown : Entries → Selection → Answer → Bool
 removes_shown m s a = list_any (is_shown_in m s) a.removed
 
 -- rule: refused-offer
-abbrev pub offers_refused : Entries → Talk → Answer → Bool
+abbrev pub offers_refused : Entries → StreamTalk → Answer → Bool
 offers_refused m k a = option_map_or (same_offer (offer_in m a)) k.refused false
 
 -- the least rule that a response breaks, of those that look at what it says of names
@@ -316,22 +316,22 @@ least_by_names t m s a =
 
 -- rule: one-unanswered
 -- and of those that look at what became of the responses before it
-abbrev pub least_by_order : Entries → Talk → Answer → Option Rule
+abbrev pub least_by_order : Entries → StreamTalk → Answer → Option Rule
 least_by_order m k a =
     if is_some k.unanswered then Some OneAtATime else if offers_refused m k a then Some NothingRefusedAgain else None
 
 -- the least rule that a response breaks
-abbrev pub least : TypeName → Entries → Talk → Answer → Option Rule
+abbrev pub least : TypeName → Entries → StreamTalk → Answer → Option Rule
 least t m k a = if is_reused k a.nonce then Some FreshNonce else option_or (least_by_names t m (wanted k) a) (least_by_order m k a)
 
 -- rule: awaited-names
 -- whether a name waits whose answer is missed
-abbrev pub is_missed : Entries → Talk → List ℕ → Bool
+abbrev pub is_missed : Entries → StreamTalk → List ℕ → Bool
 is_missed m k name = is_marked k.waiting name && (k.delta.begun || is_some (live_at m name))
 
 -- rule: awaited-names
 -- whether no name waits whose answer is missed
-abbrev pub none_missed : Entries → Talk → Bool
+abbrev pub none_missed : Entries → StreamTalk → Bool
 none_missed m k = list_all (λ e. not (is_missed m k e.0)) (finmap.entries k.waiting)
 
 -- the least rule that a line breaks, if it is one of this type

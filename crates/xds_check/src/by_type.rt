@@ -16,12 +16,12 @@ pub(crate) fn is_same(kind: TypeName, other: TypeName) -> bool
 }
 
 /// A type of the table as a type parameter, whose writes are told from those of other types.
-pub(crate) trait ByType: ResourceType {
+pub trait ByType: ResourceType {
     ghost use Rattle.std.specs.Prelude.{◌≡◌};
     ghost use Rattle.std.specs.Option.{option_map};
     ghost use Rattle.xds_check.specs.Writes.{write_of};
 
-    // The write, if it is one of this type.
+    /// The write, if it is one of this type.
     fn write_of(write: &AnyWrite) -> Option<&Write<Self>>
         ensures { option_map (λ w. w.now) result ≡ write_of Self.TYPE write.now };
 }

@@ -10,7 +10,7 @@ ghost use Rattle.xds_check.specs.Verdicts.{IsVerdict, TellsWell, TellsTheFirst};
 use crate::checking::Broken;
 use crate::judges::Judges;
 use crate::line::Line;
-use crate::order::Order;
+use crate::order::StreamOrder;
 use std::alloc::Global;
 use xds_resource::Refusal;
 
@@ -21,7 +21,7 @@ const MOST_LINES: usize = 9_223_372_036_854_775_807;
 /// writes, what was said of each stream that wasn't closed, and which streams there were. Once a rule is broken it keeps the last
 /// alone. Its verdict is at any time that of [`check`](crate::check) on the lines that were taken.
 pub struct Checker {
-    order: Order,
+    order: StreamOrder,
     judges: Judges,
     broken: Option<Broken>,
     taken: usize,
@@ -90,7 +90,7 @@ impl Checker {
         ensures { HasTaken [] result }
     {
         Checker {
-            order: Order::new(alloc),
+            order: StreamOrder::new(alloc),
             judges: Judges::new(alloc),
             broken: None,
             taken: 0,

@@ -15,7 +15,7 @@ use crate::judging;
 use crate::line::Line;
 use crate::live_names::LiveNames;
 use crate::rule::Rule;
-use crate::talk::Talk;
+use crate::talk::StreamTalk;
 use std::alloc::Global;
 use std::marker::Model;
 use xds_catalogue::{ByNumber, Catalogue};
@@ -26,7 +26,7 @@ use xds_resource::{Refusal, ResourceType, Write};
 pub(crate) struct Judge<T: ResourceType> {
     catalogue: Catalogue<T>,
     live_names: LiveNames,
-    talks: ByNumber<Talk<T>>,
+    talks: ByNumber<StreamTalk<T>>,
 }
 
 // Written out: docs/PROVING.md, "Drops".
@@ -98,7 +98,7 @@ fn broken_at_first<T: ResourceType>(
     ensures ok { IfOk result (λ r. r ≡ least T.TYPE catalogue.now.entries unheard answer.now) }
     ensures refused { IfErr result (λ e. e ≡ OutOfMemory) }
 {
-    let talk = Talk::new(alloc);
+    let talk = StreamTalk::new(alloc);
     let told = judging::broken_by(alloc, catalogue, live_names, &talk, answer);
     drop(talk);
     told
@@ -109,7 +109,7 @@ fn broken_by<T: ResourceType>(
     alloc: Global,
     catalogue: &Catalogue<T>,
     live_names: &LiveNames,
-    talks: &ByNumber<Talk<T>>,
+    talks: &ByNumber<StreamTalk<T>>,
     stream: u64,
     answer: &Answer,
 ) -> Result<Option<Rule>, Refusal>
@@ -126,7 +126,7 @@ fn broken_by<T: ResourceType>(
 // Whether no name of the type waits on a stream whose answer is missed.
 fn none_missed<T: ResourceType>(
     catalogue: &Catalogue<T>,
-    talks: &ByNumber<Talk<T>>,
+    talks: &ByNumber<StreamTalk<T>>,
     stream: u64,
 ) -> bool
     ensures { result ≡ none_missed catalogue.now.entries (talk_at talks.now stream) }
@@ -143,7 +143,7 @@ fn broken_at<T: ResourceType>(
     alloc: Global,
     catalogue: &Catalogue<T>,
     live_names: &LiveNames,
-    talks: &ByNumber<Talk<T>>,
+    talks: &ByNumber<StreamTalk<T>>,
     line: &Line,
 ) -> Result<Option<Rule>, Refusal>
     requires { AreLive catalogue.now.entries live_names.now }
@@ -187,19 +187,23 @@ fn join<T: ResourceType>(
 }
 
 // What is kept of a stream, taken out.
-fn take_out<T: ResourceType>(alloc: Global, talks: &mut ByNumber<Talk<T>>, stream: u64) -> Talk<T>
+fn take_out<T: ResourceType>(
+    alloc: Global,
+    talks: &mut ByNumber<StreamTalk<T>>,
+    stream: u64,
+) -> StreamTalk<T>
     ensures talk { result ≡ talk_at talks.old stream }
     ensures taken { talks.new ≡ finmap.remove talks.old stream }
 {
     match talks.take_out(stream) {
         Some(talk) => talk,
-        None => Talk::new(alloc),
+        None => StreamTalk::new(alloc),
     }
 }
 
 fn take_request<T: ResourceType>(
     alloc: Global,
-    talks: &mut ByNumber<Talk<T>>,
+    talks: &mut ByNumber<StreamTalk<T>>,
     stream: u64,
     asking: &Asking,
 ) -> Result<(), Refusal>
@@ -219,7 +223,7 @@ fn take_request<T: ResourceType>(
 fn take_answer<T: ResourceType>(
     alloc: Global,
     catalogue: &Catalogue<T>,
-    talks: &mut ByNumber<Talk<T>>,
+    talks: &mut ByNumber<StreamTalk<T>>,
     stream: u64,
     answer: &Answer,
 ) -> Result<(), Refusal>
@@ -323,7 +327,7 @@ fn take_write<T: ByType>(
 fn take_talk<T: ResourceType>(
     alloc: Global,
     catalogue: &Catalogue<T>,
-    talks: &mut ByNumber<Talk<T>>,
+    talks: &mut ByNumber<StreamTalk<T>>,
     line: &Line,
 ) -> Result<(), Refusal>
     ensures ok { OnOk result (IsHeard T.TYPE catalogue.now.entries line.now talks.old talks.new) }
@@ -344,7 +348,7 @@ fn take_line<T: ByType>(
     alloc: Global,
     catalogue: &mut Catalogue<T>,
     live_names: &mut LiveNames,
-    talks: &mut ByNumber<Talk<T>>,
+    talks: &mut ByNumber<StreamTalk<T>>,
     line: &Line,
 ) -> Result<Option<Rule>, Refusal>
     requires room { catalogue.old.changes < max_counter }

@@ -19,7 +19,7 @@ use crate::marks::is_marked;
 use crate::offering::{is_same, offer_of};
 use crate::rule::Rule;
 use crate::statement::{Label, Statement};
-use crate::talk::Talk;
+use crate::talk::StreamTalk;
 use std::alloc::Global;
 use xds_catalogue::Catalogue;
 use xds_interest::Interest;
@@ -236,7 +236,7 @@ fn removes_shown<T: ResourceType>(
 
 // rule: new-nonce
 // Whether a nonce is empty or was used.
-fn is_reused<T: ResourceType>(talk: &Talk<T>, nonce: &str) -> bool
+fn is_reused<T: ResourceType>(talk: &StreamTalk<T>, nonce: &str) -> bool
     ensures { result ≡ kept.is_reused talk.now nonce.now }
 {
     nonce.is_empty() || talk.used.contains(nonce)
@@ -247,7 +247,7 @@ fn is_reused<T: ResourceType>(talk: &Talk<T>, nonce: &str) -> bool
 fn offers_refused<T: ResourceType>(
     alloc: Global,
     catalogue: &Catalogue<T>,
-    talk: &Talk<T>,
+    talk: &StreamTalk<T>,
     answer: &Answer,
 ) -> Result<bool, Refusal>
     ensures ok { IfOk result (λ b. b ≡ kept.offers_refused catalogue.now.entries talk.now answer.now) }
@@ -294,7 +294,7 @@ fn broken_by_names<T: ResourceType>(
 fn broken_by_order<T: ResourceType>(
     alloc: Global,
     catalogue: &Catalogue<T>,
-    talk: &Talk<T>,
+    talk: &StreamTalk<T>,
     answer: &Answer,
 ) -> Result<Option<Rule>, Refusal>
     ensures ok { IfOk result (λ r. r ≡ least_by_order catalogue.now.entries talk.now answer.now) }
@@ -314,7 +314,7 @@ pub(crate) fn broken_by<T: ResourceType>(
     alloc: Global,
     catalogue: &Catalogue<T>,
     live_names: &LiveNames,
-    talk: &Talk<T>,
+    talk: &StreamTalk<T>,
     answer: &Answer,
 ) -> Result<Option<Rule>, Refusal>
     requires { AreLive catalogue.now.entries live_names.now }
@@ -332,7 +332,7 @@ pub(crate) fn broken_by<T: ResourceType>(
 
 // rule: awaited-names
 // Whether a name waits whose answer is missed.
-fn is_missed<T: ResourceType>(catalogue: &Catalogue<T>, talk: &Talk<T>, name: &str) -> bool
+fn is_missed<T: ResourceType>(catalogue: &Catalogue<T>, talk: &StreamTalk<T>, name: &str) -> bool
     ensures { result ≡ kept.is_missed catalogue.now.entries talk.now name.now }
 {
     is_marked(&talk.waiting, name) && (talk.speaks_delta() || live(catalogue, name).is_some())
@@ -340,7 +340,7 @@ fn is_missed<T: ResourceType>(catalogue: &Catalogue<T>, talk: &Talk<T>, name: &s
 
 // rule: awaited-names
 /// Whether no name waits whose answer is missed.
-pub(crate) fn none_missed<T: ResourceType>(catalogue: &Catalogue<T>, talk: &Talk<T>) -> bool
+pub(crate) fn none_missed<T: ResourceType>(catalogue: &Catalogue<T>, talk: &StreamTalk<T>) -> bool
     ensures { result ≡ kept.none_missed catalogue.now.entries talk.now }
 {
     for (name, _mark) in talk.waiting.iter() {

@@ -27,6 +27,7 @@ pub mod words;
 
 pub use answer::Answer;
 pub use asking::Asking;
+pub use by_type::ByType;
 pub use checker::Checker;
 pub use checking::{Broken, check};
 pub use line::Line;

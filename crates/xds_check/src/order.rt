@@ -10,19 +10,19 @@ use xds_catalogue::ByNumber;
 use xds_resource::Refusal;
 
 /// What the lines so far say of streams: whether each is open, and whether it is one of delta.
-pub(crate) struct Order {
+pub(crate) struct StreamOrder {
     open: ByNumber<bool>,
     delta: ByNumber<bool>,
 }
 
 // Written out: docs/PROVING.md, "Drops".
-impl Drop for Order {
+impl Drop for StreamOrder {
     fn drop(self) {
-        let Order { open: _, delta: _ } = self;
+        let StreamOrder { open: _, delta: _ } = self;
     }
 }
 
-impl Model for Order {
+impl Model for StreamOrder {
     ghost use Rattle.xds_check.specs.Orders.{OrderKept, order_kept_code};
 
     ghost Value = { OrderKept };
@@ -32,12 +32,12 @@ impl Model for Order {
     ghost view = { λ o. record { opened = o.open; delta = o.delta } };
 }
 
-impl Order {
+impl StreamOrder {
     /// Before the first line.
-    pub(crate) fn new(alloc: Global) -> Order
+    pub(crate) fn new(alloc: Global) -> StreamOrder
         ensures { result ≡ nothing_kept }
     {
-        Order {
+        StreamOrder {
             open: ByNumber::new(alloc),
             delta: ByNumber::new(alloc),
         }

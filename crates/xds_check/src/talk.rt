@@ -24,7 +24,7 @@ use xds_resource::{NameMap, Refusal, ResourceType, TypeName};
 
 /// What is kept of a stream, of the type `T`: what its client wants, its last response, the offers that count, the names that
 /// wait for an answer, and the nonces that were used. Contracts see the record of these.
-pub(crate) struct Talk<T: ResourceType> {
+pub(crate) struct StreamTalk<T: ResourceType> {
     known: bool,
     pub(crate) begun: bool,
     sotw: SotwNames<T>,
@@ -37,9 +37,9 @@ pub(crate) struct Talk<T: ResourceType> {
 }
 
 // Written out: docs/PROVING.md, "Drops".
-impl<T: ResourceType> Drop for Talk<T> {
+impl<T: ResourceType> Drop for StreamTalk<T> {
     fn drop(self) {
-        let Talk {
+        let StreamTalk {
             known: _,
             begun: _,
             sotw: _,
@@ -53,12 +53,12 @@ impl<T: ResourceType> Drop for Talk<T> {
     }
 }
 
-impl<T: ResourceType> Model for Talk<T> {
+impl<T: ResourceType> Model for StreamTalk<T> {
     ghost use Rattle.std.specs.Prelude.{option_map, string_bytes};
     ghost use Rattle.xds_check.specs.Kept as kept;
     ghost use Rattle.xds_check.specs.Kept.{talk_code};
 
-    ghost Value = { kept.Talk };
+    ghost Value = { kept.StreamTalk };
 
     ghost coded = { talk_code };
 
@@ -116,12 +116,12 @@ fn take_mention<T: ResourceType>(
     Ok(())
 }
 
-impl<T: ResourceType> Talk<T> {
+impl<T: ResourceType> StreamTalk<T> {
     /// What is kept of a stream of which no line spoke.
-    pub(crate) fn new(alloc: Global) -> Talk<T>
+    pub(crate) fn new(alloc: Global) -> StreamTalk<T>
         ensures { result ≡ unheard }
     {
-        Talk {
+        StreamTalk {
             known: false,
             begun: false,
             sotw: SotwNames::new(alloc, ClusterText::none()),

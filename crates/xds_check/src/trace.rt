@@ -6,7 +6,7 @@ ghost use Rattle.xds_check.specs.Streams.{IsInOrder};
 ghost use Rattle.xds_check.specs.Texts.{HasStream, IsOneLine, IsTrace, IsRefusedAt, line_text, trace_text, Says};
 
 use crate::line::Line;
-use crate::order::Order;
+use crate::order::StreamOrder;
 use crate::reading::read_line;
 use std::alloc::Global;
 use std::marker::Model;
@@ -61,7 +61,7 @@ pub(crate) fn split_line(bytes: &[u8]) -> Option<(&[u8], &[u8])>
 // Reads one line more.
 fn take_line(
     alloc: Global,
-    order: &mut Order,
+    order: &mut StreamOrder,
     lines: &mut Vec<Line>,
     text: &[u8],
 ) -> Result<(), Refusal>
@@ -111,7 +111,7 @@ impl Trace {
         ensures read { IfOk result (IsTrace bytes.now) }
         ensures refused { IfErr result (λ fault. IsRefusedAt bytes.now fault.line fault.refusal) }
     {
-        let mut order = Order::new(alloc);
+        let mut order = StreamOrder::new(alloc);
         let mut lines = Vec::new(alloc);
         let mut rest = bytes;
         let mut line = 1usize;

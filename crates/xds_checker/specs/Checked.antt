@@ -1,7 +1,7 @@
 -- What becomes of a resource of which a checker is asked. This project's own.
 --     is_taken       whether it is taken: one that is good, and, where that is wanted, one of which nothing is said
 --     asked_text     what a checker is asked of what happens: the text of the resource that is put
---     Told           what is told of a resource: what a checker says, or why it isn't known
+--     CheckerAnswer  what is told of a resource: what a checker says, or why it isn't known
 --     refusal_by     why a resource isn't taken of which this is said
 --     judged         the same of what is told, where it isn't taken
 --     IsChecked      why a change isn't made, if it isn't, by what may be told of its resource
@@ -35,7 +35,7 @@ use Rattle.xds_port.specs.declared.verdict.Absence.{Absence}
 use Rattle.xds_port.specs.declared.verdict.Absence.TheVariants.{Unreachable, Silent, Broken}
 use Rattle.xds_port.specs.declared.verdict.Verdict.{Verdict}
 use Rattle.xds_port.specs.declared.verdict.Verdict.TheVariants.{Good, Bad, Away}
-use Rattle.xds_checker.specs.declared.checker.Known.{Known}
+use Rattle.xds_checker.specs.declared.checker.CheckerRecord.{CheckerRecord}
 
 -- whether it is taken: one that is good, and, where that is wanted, one of which nothing is said
 abbrev pub is_taken : Verdict → Bool → Bool
@@ -55,8 +55,8 @@ asked_text (Put kind named groups) = Some named.body
 asked_text event = None
 
 -- what is told of a resource: what a checker says, or why it isn't known
-abbrev pub Told : Type 0
-Told = Result Verdict Refusal
+abbrev pub CheckerAnswer : Type 0
+CheckerAnswer = Result Verdict Refusal
 
 -- why a resource isn't taken of which this is said
 abbrev pub refusal_by : Verdict → Refusal
@@ -65,14 +65,14 @@ refusal_by (Bad complaint) = BadResource
 refusal_by (Away absence) = Device
 
 -- the same of what is told, where it isn't taken
-abbrev pub judged : Told → Bool → Option Refusal
+abbrev pub judged : CheckerAnswer → Bool → Option Refusal
 judged (Ok verdict) passes = if is_taken verdict passes then None else Some (refusal_by verdict)
 judged (Err refusal) passes = Some refusal
 
 -- Why a change isn't made, if it isn't, by what may be told of its resource: what is asked of it is its text, and of a deletion nothing is asked.
-abbrev pub IsChecked : (List ℕ → Told → Type 0) → Bool → Option (List ℕ) → Option Refusal → Type 0
+abbrev pub IsChecked : (List ℕ → CheckerAnswer → Type 0) → Bool → Option (List ℕ) → Option Refusal → Type 0
 IsChecked tells passes None o = o ≡ None
-IsChecked tells passes (Some text) o = (told : Told) × tells text told × (o ≡ judged told passes)
+IsChecked tells passes (Some text) o = (told : CheckerAnswer) × tells text told × (o ≡ judged told passes)
 
 -- A change is handed on that isn't refused. A refused one ends all, unless refused lines are kept.
 abbrev pub HandsJudged : {H : Type 0} → (H → H → Written → Type 0) → Bool → Bool → H → H → Written → Option Refusal → Type 0
@@ -80,7 +80,7 @@ HandsJudged hands keeps over s t w None = hands s t w × (over ≡ false)
 HandsJudged hands keeps over s t w (Some refusal) = (t ≡ s) × (over ≡ not keeps)
 
 -- A change is handed on, as a checker says, and none behind the end.
-abbrev pub HandsChecked : {H : Type 0} → (H → H → Written → Type 0) → (List ℕ → Told → Type 0) → Bool → Bool → Bool → Bool → H → H → Written → Type 0
+abbrev pub HandsChecked : {H : Type 0} → (H → H → Written → Type 0) → (List ℕ → CheckerAnswer → Type 0) → Bool → Bool → Bool → Bool → H → H → Written → Type 0
 HandsChecked hands tells passes keeps true over s t w = (t ≡ s) × (over ≡ true)
 HandsChecked hands tells passes keeps false over s t w = (o : Option Refusal) × IsChecked tells passes (asked_text w.1) o × HandsJudged hands keeps over s t w o
 
@@ -115,7 +115,7 @@ whole_line line refusal None = bare_line line refusal
 whole_line line refusal (Some why) = why_line line refusal why
 
 -- what is told where a checker has no answer: it is away, but where there is no memory
-abbrev pub told_absent : Unanswered → Told
+abbrev pub told_absent : Unanswered → CheckerAnswer
 told_absent unanswered.NoMemory = Err OutOfMemory
 told_absent unanswered.Unreachable = Ok (Away Unreachable)
 told_absent unanswered.Late = Ok (Away Silent)
@@ -133,7 +133,7 @@ absence_by (Bad complaint) = None
 absence_by (Away absence) = Some absence
 
 -- what is counted once this was said of a resource
-abbrev pub counted : Known → Verdict → Known
+abbrev pub counted : CheckerRecord → Verdict → CheckerRecord
 counted known Good = record known { good = one_more known.good }
 counted known (Bad complaint) = record known { bad = one_more known.bad }
 counted known (Away absence) = record known { away = one_more known.away }
@@ -146,7 +146,7 @@ has_turned (Some before) None = true
 has_turned (Some before) (Some absence) = false
 
 -- What is known of a checker once this was said of a resource: it is to be told where it has gone away, or is back.
-abbrev pub known_after : Known → Verdict → Known
+abbrev pub known_after : CheckerRecord → Verdict → CheckerRecord
 known_after known verdict = record (counted known verdict) {
   absence = absence_by verdict;
   is_untold = has_turned known.absence (absence_by verdict) || known.is_untold;

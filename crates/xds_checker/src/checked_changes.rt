@@ -3,13 +3,13 @@ ghost use Rattle.std.specs.Prelude.{◌≡◌, Err, None, map, string_bytes, IfO
 ghost use Rattle.std.specs.Option.{option_map};
 ghost use Rattle.xds_checker.specs.Checked.{told_line, why_after};
 
-use crate::checker::{Asks, Told, asked_of};
+use crate::checker::{CheckerAnswer, CheckerLink, asked_of};
 use crate::validating::{Unchecked, judged, unchecked_line};
 use crossbeam_channel::{Receiver, RecvTimeoutError};
 use std::alloc::Global;
 use std::sync::Wait;
 use std::time::{Clock, Duration};
-use xds_changes::kept::Said;
+use xds_changes::said_lines::SaidLine;
 use xds_notes::{Fault, refused_line};
 use xds_resource::Refusal;
 
@@ -20,19 +20,19 @@ const PAUSE_MILLISECONDS: u64 = 1;
 pub type Whys = Vec<(u64, String)>;
 
 /// A line of changes, and whether it is the last.
-pub type NextLine = (Said, bool);
+pub type NextLine = (SaidLine, bool);
 
 /// A line of changes of whose resource a checker is asked.
-pub struct Asking {
-    said: Said,
+pub struct AskedLine {
+    said: SaidLine,
     is_last: bool,
-    from: Receiver<Told>,
+    from: Receiver<CheckerAnswer>,
 }
 
 // Written out: docs/PROVING.md, "Drops".
-impl Drop for Asking {
+impl Drop for AskedLine {
     fn drop(self) {
-        let Asking {
+        let AskedLine {
             said: _,
             is_last: _,
             from: _,
@@ -44,9 +44,9 @@ impl Drop for Asking {
 pub fn begin_asking<R: Wait>(
     rt: &R,
     alloc: Global,
-    asks: &Asks,
+    asks: &CheckerLink,
     next: NextLine,
-) -> Result<NextLine, Asking> {
+) -> Result<NextLine, AskedLine> {
     let (said, is_last) = next;
     let asked = match &said.what {
         Ok(Some(change)) => match asked_of(&change.event) {
@@ -57,7 +57,7 @@ pub fn begin_asking<R: Wait>(
     };
     match asked {
         None => Ok((said, is_last)),
-        Some(Ok(from)) => Err(Asking {
+        Some(Ok(from)) => Err(AskedLine {
             said,
             is_last,
             from,
@@ -67,28 +67,28 @@ pub fn begin_asking<R: Wait>(
 }
 
 // A line that is refused so, whatever it says.
-fn refused_as(said: Said, refusal: Refusal) -> Said
+fn refused_as(said: SaidLine, refusal: Refusal) -> SaidLine
     ensures { result ≡ record { line = said.line; what = Err (record { refusal = refusal; cause = None; long = None }) } }
 {
     let line = said.line;
     drop(said);
-    Said {
+    SaidLine {
         line,
         what: Err(Fault::of(refusal)),
     }
 }
 
-impl Asking {
+impl AskedLine {
     /// The line once the checker has answered, which is refused where it doesn't take the resource; what is told of that is kept. It waits
     /// for a moment at most.
     pub fn go_on<R: Wait + Clock>(
         self,
         rt: &R,
         alloc: Global,
-        asks: &Asks,
+        asks: &CheckerLink,
         whys: &mut Whys,
-    ) -> Result<NextLine, Asking> {
-        let Asking {
+    ) -> Result<NextLine, AskedLine> {
+        let AskedLine {
             said,
             is_last,
             from,
@@ -96,7 +96,7 @@ impl Asking {
         let told = match from.recv_timeout(rt, Duration::from_millis(PAUSE_MILLISECONDS)) {
             Ok(told) => asks.counted(rt, told),
             Err(RecvTimeoutError::Timeout) => {
-                return Err(Asking {
+                return Err(AskedLine {
                     said,
                     is_last,
                     from,

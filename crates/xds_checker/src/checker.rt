@@ -12,7 +12,7 @@ use std::time::Duration;
 use xds_core::Event;
 use xds_machine::deadline::Deadline;
 use xds_machine::machine::Machine;
-use xds_machine::port_client::{Request, Unanswered, answered, whole_answer};
+use xds_machine::port_client::{PortRequest, Unanswered, answered, whole_answer};
 use xds_machine::threads::start_worker;
 use xds_notes::{Ending, Note};
 use xds_port::{Absence, Verdict, read_verdict};
@@ -31,18 +31,18 @@ const MOST_ANSWER: usize = 65_536;
 const MOST_WAITING: usize = 16;
 
 /// What is told of a resource.
-pub type Told = Result<Verdict, Refusal>;
+pub type CheckerAnswer = Result<Verdict, Refusal>;
 
 /// A question: the resource's text, and where the answer goes.
 #[derive(Drop)]
-pub struct Question {
+pub struct CheckQuestion {
     text: String,
-    to: Sender<Told>,
+    to: Sender<CheckerAnswer>,
 }
 
 // What is known of a checker.
 #[derive(Clone, Copy)]
-struct Known {
+struct CheckerRecord {
     good: u64,
     bad: u64,
     away: u64,
@@ -52,18 +52,18 @@ struct Known {
 }
 
 /// What a checker is asked by.
-pub struct Asks {
-    questions: Sender<Question>,
+pub struct CheckerLink {
+    questions: Sender<CheckQuestion>,
     addr: SocketAddrV4,
     /// Whether resources are taken where it is away.
     pub passes: bool,
-    known: Mutex<Known>,
+    known: Mutex<CheckerRecord>,
 }
 
 // Written out: docs/PROVING.md, "Drops".
-impl Drop for Asks {
+impl Drop for CheckerLink {
     fn drop(self) {
-        let Asks {
+        let CheckerLink {
             questions: _,
             addr: _,
             passes: _,
@@ -99,7 +99,7 @@ pub fn start_checker<R>(
     alloc: Global,
     addr: SocketAddrV4,
     passes: bool,
-) -> Result<Asks, Refusal>
+) -> Result<CheckerLink, Refusal>
 where
     R: Machine,
 {
@@ -107,11 +107,11 @@ where
     start_worker(rt, Ok(asked), move |rt, asked| {
         answer_all(rt, alloc, addr, &asked);
     })?;
-    Ok(Asks {
+    Ok(CheckerLink {
         questions,
         addr,
         passes,
-        known: Mutex::new(Known {
+        known: Mutex::new(CheckerRecord {
             good: 0,
             bad: 0,
             away: 0,
@@ -126,14 +126,14 @@ fn answer_all<R: Machine>(
     rt: &R,
     alloc: Global,
     addr: SocketAddrV4,
-    questions: &Receiver<Question>,
+    questions: &Receiver<CheckQuestion>,
 ) {
     let mut resting: Option<(Deadline, Absence)> = None;
     for _ in rt.forever() {
         let Ok(question) = questions.recv(rt) else {
             return;
         };
-        let Question { text, to } = question;
+        let CheckQuestion { text, to } = question;
         let told = told_by(rt, alloc, addr, text.as_str(), resting);
         resting = rest_after(rt, &told, resting);
         let _ = to.send(rt, told);
@@ -147,7 +147,7 @@ fn told_by<R: Machine>(
     addr: SocketAddrV4,
     text: &str,
     resting: Option<(Deadline, Absence)>,
-) -> Told {
+) -> CheckerAnswer {
     match resting {
         Some((until, absence)) if !until.rest(rt).is_zero() => Ok(Verdict::Away(absence)),
         _ => told_at(rt, alloc, addr, text),
@@ -157,7 +157,7 @@ fn told_by<R: Machine>(
 // Until when a checker isn't asked that said this: not at all, where it said something, and else for a moment since it was found away.
 fn rest_after<R: Machine>(
     rt: &R,
-    told: &Told,
+    told: &CheckerAnswer,
     resting: Option<(Deadline, Absence)>,
 ) -> Option<(Deadline, Absence)> {
     let Ok(Verdict::Away(absence)) = told else {
@@ -173,8 +173,8 @@ fn rest_after<R: Machine>(
 }
 
 // What the checker at this address says of a resource.
-fn told_at<R: Machine>(rt: &R, alloc: Global, addr: SocketAddrV4, text: &str) -> Told {
-    let request = Request {
+fn told_at<R: Machine>(rt: &R, alloc: Global, addr: SocketAddrV4, text: &str) -> CheckerAnswer {
+    let request = PortRequest {
         method: "POST",
         target: "/",
         bearer: None,
@@ -193,7 +193,7 @@ fn told_at<R: Machine>(rt: &R, alloc: Global, addr: SocketAddrV4, text: &str) ->
 }
 
 // What is told where a checker has no answer.
-fn told_absent(unanswered: Unanswered) -> Told
+fn told_absent(unanswered: Unanswered) -> CheckerAnswer
     ensures { result ≡ told_absent unanswered }
 {
     match unanswered {
@@ -204,12 +204,12 @@ fn told_absent(unanswered: Unanswered) -> Told
     }
 }
 
-impl Known {
+impl CheckerRecord {
     ghost use Rattle.std.specs.Prelude.{◌≡◌, false};
     ghost use Rattle.xds_checker.specs.Checked.{known_after};
 
     // The same, once this was told of a resource.
-    fn with(self, verdict: &Verdict) -> Known
+    fn with(self, verdict: &Verdict) -> CheckerRecord
         ensures { result ≡ known_after self verdict.now }
     {
         let mut known = self;
@@ -235,7 +235,7 @@ impl Known {
     }
 
     // The same, once it is told that the checker is away, or isn't.
-    fn as_told(self) -> Known
+    fn as_told(self) -> CheckerRecord
         ensures { result ≡ record self { is_untold = false } }
     {
         let mut known = self;
@@ -245,7 +245,7 @@ impl Known {
 }
 
 /// What is asked of resources before they are taken. What a server asks its checker by is such.
-pub trait Judges {
+pub trait JudgesResources {
     ghost use Rattle.std.specs.Prelude.{◌≡◌, ℕ, List, Bool, Result};
     ghost use Rattle.xds_resource.specs.declared.refusal.Refusal.{Refusal};
     ghost use Rattle.xds_port.specs.declared.verdict.Verdict.{Verdict};
@@ -257,7 +257,7 @@ pub trait Judges {
     ghost passes: { Self → Bool };
 
     /// Asks of a resource, and waits for the answer, which is counted.
-    fn judge<R: Wait>(&self, rt: &R, alloc: Global, text: &str) -> Told
+    fn judge<R: Wait>(&self, rt: &R, alloc: Global, text: &str) -> CheckerAnswer
         ensures { tells self.now text.now result };
 
     /// Whether a resource is taken of which nothing is said.
@@ -268,7 +268,7 @@ pub trait Judges {
     fn tell_turn<R: Wait>(&self, rt: &R, alloc: Global, ending: &Ending);
 }
 
-impl Judges for Asks {
+impl JudgesResources for CheckerLink {
     ghost use Rattle.std.specs.Prelude.{⊤};
 
     // Nothing is claimed of what another thread tells.
@@ -276,7 +276,7 @@ impl Judges for Asks {
 
     ghost passes = { λ a. a.passes };
 
-    fn judge<R: Wait>(&self, rt: &R, alloc: Global, text: &str) -> Told {
+    fn judge<R: Wait>(&self, rt: &R, alloc: Global, text: &str) -> CheckerAnswer {
         self.check(rt, alloc, text)
     }
 
@@ -289,24 +289,24 @@ impl Judges for Asks {
     }
 }
 
-impl Asks {
+impl CheckerLink {
     /// Asks of a resource. The answer comes within some seconds. Refused by `Device` where there is no thread that asks.
     pub fn ask<R: Wait>(
         &self,
         rt: &R,
         alloc: Global,
         text: &str,
-    ) -> Result<Receiver<Told>, Refusal> {
+    ) -> Result<Receiver<CheckerAnswer>, Refusal> {
         let text = String::from_str(alloc, text)?;
         let (to, from) = unbounded(alloc)?;
-        match self.questions.send(rt, Question { text, to }) {
+        match self.questions.send(rt, CheckQuestion { text, to }) {
             Ok(()) => Ok(from),
             Err(_) => Err(Refusal::Device),
         }
     }
 
     /// Asks of a resource, and waits for the answer, which is counted.
-    pub fn check<R: Wait>(&self, rt: &R, alloc: Global, text: &str) -> Told {
+    pub fn check<R: Wait>(&self, rt: &R, alloc: Global, text: &str) -> CheckerAnswer {
         let from = self.ask(rt, alloc, text)?;
         match from.recv(rt) {
             Ok(told) => self.counted(rt, told),
@@ -315,7 +315,7 @@ impl Asks {
     }
 
     /// Counts an answer.
-    pub fn counted<R: Wait>(&self, rt: &R, told: Told) -> Told {
+    pub fn counted<R: Wait>(&self, rt: &R, told: CheckerAnswer) -> CheckerAnswer {
         if let Ok(verdict) = &told {
             let mut known = self.known.lock(rt);
             let next = (*known).with(verdict);

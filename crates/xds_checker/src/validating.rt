@@ -4,7 +4,7 @@ ghost use Rattle.std.specs.Option.{option_map};
 ghost use Rattle.xds_core.specs.Seen.{event_of};
 ghost use Rattle.xds_checker.specs.Checked.{IsChecked, asked_text, judged, refusal_by, unchecked_line, whole_line};
 
-use crate::checker::{Asks, Judges, Told, asked_of, is_taken};
+use crate::checker::{CheckerAnswer, CheckerLink, JudgesResources, asked_of, is_taken};
 use std::alloc::Global;
 use std::io::Read;
 use std::sync::Wait;
@@ -81,7 +81,7 @@ fn away_text(alloc: Global, why: Result<String, Refusal>) -> Result<String, Refu
 }
 
 /// Why a resource isn't taken of which this was told, if it isn't.
-pub fn judged(alloc: Global, told: Told, passes: bool) -> Option<Unchecked>
+pub fn judged(alloc: Global, told: CheckerAnswer, passes: bool) -> Option<Unchecked>
     ensures { option_map (λ u. u.refusal) result ≡ judged told passes }
 {
     match told {
@@ -97,7 +97,7 @@ pub fn judged(alloc: Global, told: Told, passes: bool) -> Option<Unchecked>
 }
 
 // Why a change isn't made, as a checker says, if it isn't.
-fn checked<R: Wait, C: Judges>(
+fn checked<R: Wait, C: JudgesResources>(
     rt: &R,
     alloc: Global,
     asks: &C,
@@ -143,7 +143,7 @@ impl<'a, H, C> Validating<'a, H, C> {
     }
 }
 
-impl<'a, H: Hands, C: Judges> Hands for Validating<'a, H, C> {
+impl<'a, H: Hands, C: JudgesResources> Hands for Validating<'a, H, C> {
     ghost use Rattle.xds_checker.specs.Checked.{HandsChecked};
 
     ghost hands = { λ s t w. HandsChecked H.hands (C.tells s.asks.now) (C.passes s.asks.now) s.keeps s.is_over t.is_over s.hands t.hands w };
@@ -166,7 +166,7 @@ impl<'a, H: Hands, C: Judges> Hands for Validating<'a, H, C> {
     }
 }
 
-impl<'a, H: Keeps, C: Judges> Keeps for Validating<'a, H, C> {
+impl<'a, H: Keeps, C: JudgesResources> Keeps for Validating<'a, H, C> {
     ghost refuses = { λ s t line refusal. H.refuses s.hands t.hands line refusal };
 
     fn refuse<R: Wait>(&mut self, rt: &R, line: u64, fault: Fault) {
@@ -182,7 +182,7 @@ pub fn take_checked<I: Read, H: Keeps + Drop, R: Wait>(
     hands: H,
     keeps: bool,
     ending: &Ending,
-    asks: &Asks,
+    asks: &CheckerLink,
 ) {
     let mut hands = Validating {
         hands,
@@ -206,7 +206,7 @@ pub fn take_checked<I: Read, H: Keeps + Drop, R: Wait>(
 #[derive(Drop)]
 struct Looking<'a> {
     alloc: Global,
-    asks: &'a Asks,
+    asks: &'a CheckerLink,
     refused: Option<(u64, Unchecked)>,
 }
 
@@ -232,7 +232,7 @@ pub fn first_refused<I: Read, R: Wait>(
     rt: &R,
     alloc: Global,
     input: &mut I,
-    asks: &Asks,
+    asks: &CheckerLink,
 ) -> Result<Option<String>, Refusal> {
     let mut looking = Looking {
         alloc,

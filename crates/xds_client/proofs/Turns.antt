@@ -10,7 +10,7 @@ use Rattle.xds_frames.specs.Frames.{IsPartial}
 use Rattle.xds_frames.specs.Devices.{Wrote, WrotePart}
 use Rattle.xds_cache.specs.Clients.{Client}
 use Rattle.xds_client.specs.declared.subscription.StreamVariant.{StreamVariant}
-use Rattle.xds_client.specs.declared.answering.Reply.{Reply}
+use Rattle.xds_client.specs.declared.answering.ResponseReply.{ResponseReply}
 use Rattle.xds_client.specs.Exchanges.{answers}
 use Rattle.xds_client.specs.Ending.{EndsEarly}
 use Rattle.xds_client.specs.Running.{Ends, Serves, Starts}
@@ -27,13 +27,13 @@ changed_to a left x same = sym (ap (λ p. p.0) (ok_is a (left, x) same))
 -- ---- a turn
 
 -- what is said of a reply that is there
-pub replied : (v : StreamVariant) (t : TypeName) (c left : Client) (held after : List ℕ) (o : Option Reply) (r : Reply) → GivesAnswer v t c held (Ok o) left after → o ≡ Some r
+pub replied : (v : StreamVariant) (t : TypeName) (c left : Client) (held after : List ℕ) (o : Option ResponseReply) (r : ResponseReply) → GivesAnswer v t c held (Ok o) left after → o ≡ Some r
     → GivesAnswer v t c held (Ok (Some r)) left after
-replied v t c left held after o r gives is = subst (λ (x : Option Reply). GivesAnswer v t c held (Ok x) left after) is gives
+replied v t c left held after o r gives is = subst (λ (x : Option ResponseReply). GivesAnswer v t c held (Ok x) left after) is gives
 
-pub none_replied : (v : StreamVariant) (t : TypeName) (c left : Client) (held after : List ℕ) (o : Option Reply) → GivesAnswer v t c held (Ok o) left after → o ≡ None
+pub none_replied : (v : StreamVariant) (t : TypeName) (c left : Client) (held after : List ℕ) (o : Option ResponseReply) → GivesAnswer v t c held (Ok o) left after → o ≡ None
     → IsPartial held × (after ≡ held) × (left ≡ c)
-none_replied v t c left held after o gives is = subst (λ (x : Option Reply). GivesAnswer v t c held (Ok x) left after) is gives
+none_replied v t c left held after o gives is = subst (λ (x : Option ResponseReply). GivesAnswer v t c held (Ok x) left after) is gives
 
 module _ (v : StreamVariant) (t : TypeName) (c left : Client) (held after : List ℕ) (r s o : Option (List ℕ)) (i f h n₀ n₁ : ℕ) where
   -- it ends before anything more is read or told
@@ -47,7 +47,7 @@ module _ (v : StreamVariant) (t : TypeName) (c left : Client) (held after : List
   turn_unanswered e (inr (x, more, is_frame, begins, unanswered)) = ends_at e (inr (x, more, is_frame, begins, refl, inl (unanswered, (refl, refl, refl, refl))))
 
   -- where the lines aren't printed whole
-  pub turn_unprinted : (p : Option (List ℕ)) (k : ℕ) (reply : Reply) (said : List ℕ) (e : Refusal) → GivesAnswer v t c held (Ok (Some reply)) left after → said ≡ string_bytes reply.lines
+  pub turn_unprinted : (p : Option (List ℕ)) (k : ℕ) (reply : ResponseReply) (said : List ℕ) (e : Refusal) → GivesAnswer v t c held (Ok (Some reply)) left after → said ≡ string_bytes reply.lines
       → (e ≡ DeviceRefusal) × WrotePart (dev o p h k) said → Stops v t c held e (devs (dev r r i i) (dev s s f f) (dev o p h k) n₀ n₁)
   turn_unprinted p k reply said e (x, a, is_frame, begins, answered, leaves, (lines_are, frame_is)) said_is (is, (failed, (n, wrote))) = (
     [],
@@ -60,7 +60,7 @@ module _ (v : StreamVariant) (t : TypeName) (c left : Client) (held after : List
   )
 
   -- where the request isn't written whole
-  pub turn_unwritten : (p u : Option (List ℕ)) (k g : ℕ) (reply : Reply) (said bytes : List ℕ) (e : Refusal) → GivesAnswer v t c held (Ok (Some reply)) left after → said ≡ string_bytes reply.lines
+  pub turn_unwritten : (p u : Option (List ℕ)) (k g : ℕ) (reply : ResponseReply) (said bytes : List ℕ) (e : Refusal) → GivesAnswer v t c held (Ok (Some reply)) left after → said ≡ string_bytes reply.lines
       → Wrote (dev o p h k) said → k ≡ h → bytes ≡ reply.frame.items → (e ≡ DeviceRefusal) × WrotePart (dev s u f g) bytes
       → Stops v t c held e (devs (dev r r i i) (dev s u f g) (dev o p h k) n₀ n₁)
   turn_unwritten p u k g reply said bytes e (x, a, is_frame, begins, answered, leaves, (lines_are, frame_is)) said_is told none bytes_are (is, (failed, (n, wrote))) = (
@@ -74,7 +74,7 @@ module _ (v : StreamVariant) (t : TypeName) (c left : Client) (held after : List
   )
 
   -- where both are
-  pub turn_takes : (p u : Option (List ℕ)) (k g : ℕ) (reply : Reply) (said bytes : List ℕ) → GivesAnswer v t c held (Ok (Some reply)) left after → said ≡ string_bytes reply.lines
+  pub turn_takes : (p u : Option (List ℕ)) (k g : ℕ) (reply : ResponseReply) (said bytes : List ℕ) → GivesAnswer v t c held (Ok (Some reply)) left after → said ≡ string_bytes reply.lines
       → Wrote (dev o p h k) said → k ≡ h → bytes ≡ reply.frame.items → Wrote (dev s u f g) bytes → g ≡ f → n₁ ≡ n₀
       → TakesOne v t c held left after (devs (dev r r i i) (dev s u f g) (dev o p h k) n₀ n₁)
   turn_takes p u k g reply said bytes (x, a, is_frame, begins, answered, leaves, (lines_are, frame_is)) said_is told none bytes_are wrote none_too called =

@@ -24,7 +24,7 @@ use Rattle.xds_frames.specs.declared.counted.Counted.{Counted}
 use Rattle.xds_cache.specs.Clients.{Client}
 use Rattle.xds_client.specs.declared.subscription.StreamVariant.{StreamVariant}
 use Rattle.xds_client.specs.declared.subscription.Subscription.{Subscription}
-use Rattle.xds_client.specs.declared.connecting.Ended.{Ended}
+use Rattle.xds_client.specs.declared.connecting.ConnectingEnd.{ConnectingEnd}
 use Rattle.xds_client.specs.Subscribing.{OpeningFits, first_client, opening}
 use Rattle.xds_client.specs.Exchanges.{Exchange, AreAnswered, client_after, responses, answers, printed}
 use Rattle.xds_client.specs.Ending.{Devices, EndsEarly, IsPart, NoneFailed}
@@ -105,11 +105,11 @@ RunsBetween reader writer remaining contents s answer (Some (r, w)) output =
     Runs s answer (record { input = seen remaining (unused reader) r; server = seen contents (unused writer) w; output = output; calls_before = 0; calls_after = r.calls })
 
 -- the same of how it ended
-abbrev pub RunsOver : {R W : Type 0} → R → W → (R → Option (List ℕ)) → (W → Option (List ℕ)) → Subscription → Ended R W → Device → Type 0
+abbrev pub RunsOver : {R W : Type 0} → R → W → (R → Option (List ℕ)) → (W → Option (List ℕ)) → Subscription → ConnectingEnd R W → Device → Type 0
 RunsOver reader writer remaining contents s ended output = RunsBetween reader writer remaining contents s ended.answer ended.ends output
 
 -- A client over what one call connected it to, and over nothing else; or there was no connection, for the refusal of this call.
-abbrev pub RunsBy : {R W : Type 0} → (Result (R × W) Refusal → Type 0) → (R → Option (List ℕ)) → (W → Option (List ℕ)) → Subscription → Ended R W → Device → Type 0
+abbrev pub RunsBy : {R W : Type 0} → (Result (R × W) Refusal → Type 0) → (R → Option (List ℕ)) → (W → Option (List ℕ)) → Subscription → ConnectingEnd R W → Device → Type 0
 RunsBy {R} {W} dialled remaining contents s ended output =
     ((reader : R) × (writer : W) × dialled (Ok (reader, writer)) × RunsOver reader writer remaining contents s ended output)
     ⊎ ((e : Refusal) × dialled (Err e) × (ended.ends ≡ None) × IsUndialled e ended.answer output)

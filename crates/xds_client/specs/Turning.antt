@@ -27,7 +27,7 @@ use Rattle.xds_client.specs.declared.subscription.StreamVariant.{StreamVariant}
 use Rattle.xds_client.specs.declared.subscription.StreamVariant.TheVariants as variants
 use Rattle.xds_client.specs.declared.answering.StreamClient.{StreamClient}
 use Rattle.xds_client.specs.declared.answering.StreamClient.TheVariants as clients
-use Rattle.xds_client.specs.declared.answering.Reply.{Reply}
+use Rattle.xds_client.specs.declared.answering.ResponseReply.{ResponseReply}
 use Rattle.xds_client.specs.Subscribing.{Fits, asking}
 use Rattle.xds_client.specs.Answering.{Answer, Answers, IsUnanswered}
 use Rattle.xds_client.specs.Lines.{lines}
@@ -55,7 +55,7 @@ abbrev pub left_to_do : ℕ → List ℕ → ℕ
 left_to_do calls held = (most_calls - calls) * (longest_piece + 1) + length held
 
 -- what is made of an answer: its lines and its frame
-abbrev pub IsMade : StreamVariant → TypeName → Answer → Reply → Type 0
+abbrev pub IsMade : StreamVariant → TypeName → Answer → ResponseReply → Type 0
 IsMade v t a r = (string_bytes r.lines ≡ lines v t a) × (r.frame.items ≡ frame_bytes (asking v a.text))
 
 -- no reply, since there was no memory, or the request's text is too long for a frame
@@ -63,7 +63,7 @@ abbrev pub IsUntellable : StreamVariant → List ℕ → Refusal → Type 0
 IsUntellable v text e = (e ≡ OutOfMemory) ⊎ ((e ≡ FrameTooLong) × ¬ Fits v text)
 
 -- the next frame's answer, none where less than a frame is held, or why there is none
-abbrev pub GivesAnswer : StreamVariant → TypeName → Client → List ℕ → Result (Option Reply) Refusal → Client → List ℕ → Type 0
+abbrev pub GivesAnswer : StreamVariant → TypeName → Client → List ℕ → Result (Option ResponseReply) Refusal → Client → List ℕ → Type 0
 GivesAnswer v t c held (Ok (Some r)) left after =
     (f : Framed) × (a : Answer) × IsFrame f × (held ≡ frame_bytes f ++ after) × Answers v c f a × (left ≡ a.left) × IsMade v t a r
 GivesAnswer v t c held (Ok None) left after = IsPartial held × (after ≡ held) × (left ≡ c)

@@ -28,7 +28,7 @@ pub(crate) enum StreamClient {
 }
 
 /// What comes of a response.
-pub(crate) struct Reply {
+pub(crate) struct ResponseReply {
     /// The lines to print.
     pub(crate) lines: String,
     /// The frame of the request that answers it.
@@ -36,9 +36,9 @@ pub(crate) struct Reply {
 }
 
 // Written out: docs/PROVING.md, "Drops".
-impl Drop for Reply {
+impl Drop for ResponseReply {
     fn drop(self) {
-        let Reply { lines: _, frame: _ } = self;
+        let ResponseReply { lines: _, frame: _ } = self;
     }
 }
 
@@ -50,14 +50,14 @@ fn reply_of(
     refused: bool,
     text: &str,
     view: &Cache,
-) -> Result<Reply, Refusal>
+) -> Result<ResponseReply, Refusal>
     ensures lines { IfOk result (λ r. string_bytes r.lines ≡ answer_line refused nonce.now ++ view_lines variant view.now) }
     ensures frame { IfOk result (λ r. Fits variant text.now × (r.frame.items ≡ frame_bytes (asking variant text.now))) }
     ensures refused { IfErr result (IsUntellable variant text.now) }
 {
     let frame = write_frame(alloc, variant.request_kind(), text.as_bytes())?;
     let lines = lines_of(alloc, variant, nonce, refused, view)?;
-    Ok(Reply { lines, frame })
+    Ok(ResponseReply { lines, frame })
 }
 
 // The reply to a response that the client answers with the request.
@@ -67,7 +67,7 @@ fn sotw_reply(
     kind: TypeName,
     response: &DiscoveryResponse,
     request: &DiscoveryRequest,
-) -> Result<Reply, Refusal>
+) -> Result<ResponseReply, Refusal>
     ensures ok { IfOk result (λ r. Fits variants.Sotw (sotw_text request.now) × IsMade variants.Sotw kind (answer_of client.now (response_of response.now).nonce (is_some request.now.error_detail) (sotw_text request.now)) r) }
     ensures refused { IfErr result (IsUntellable variants.Sotw (sotw_text request.now)) }
 {
@@ -91,7 +91,7 @@ fn delta_reply(
     kind: TypeName,
     response: &DeltaDiscoveryResponse,
     request: &DeltaDiscoveryRequest,
-) -> Result<Reply, Refusal>
+) -> Result<ResponseReply, Refusal>
     ensures ok { IfOk result (λ r. Fits variants.Delta (delta_text request.now) × IsMade variants.Delta kind (answer_of client.now (delta_response_of response.now).nonce (is_some request.now.error_detail) (delta_text request.now)) r) }
     ensures refused { IfErr result (IsUntellable variants.Delta (delta_text request.now)) }
 {
@@ -115,7 +115,7 @@ fn answer_sotw(
     client: &mut SotwClient<Marked, Up>,
     kind: TypeName,
     text: &[u8],
-) -> Result<Reply, Refusal>
+) -> Result<ResponseReply, Refusal>
     ensures ok { IfOk result (λ r. (a : specs.Answer) × SotwAnswers client.old text.now a × Fits variants.Sotw a.text × (client.new ≡ a.left) × IsMade variants.Sotw kind a r) }
     ensures refused { IfErr result (SotwUnanswered client.old text.now) }
 {
@@ -129,7 +129,7 @@ fn answer_delta(
     client: &mut DeltaClient<Marked, Up>,
     kind: TypeName,
     text: &[u8],
-) -> Result<Reply, Refusal>
+) -> Result<ResponseReply, Refusal>
     ensures ok { IfOk result (λ r. (a : specs.Answer) × DeltaAnswers client.old text.now a × Fits variants.Delta a.text × (client.new ≡ a.left) × IsMade variants.Delta kind a r) }
     ensures refused { IfErr result (DeltaUnanswered client.old text.now) }
 {
@@ -149,7 +149,12 @@ impl StreamClient {
     }
 
     // What comes of the frame of a response.
-    fn answer(&mut self, alloc: Global, kind: TypeName, frame: Frame<'_>) -> Result<Reply, Refusal>
+    fn answer(
+        &mut self,
+        alloc: Global,
+        kind: TypeName,
+        frame: Frame<'_>,
+    ) -> Result<ResponseReply, Refusal>
         ensures ok { IfOk result (λ r. (a : specs.Answer) × Answers (variant_of self.old) (client_of self.old) (framed frame.entry) a × (client_of self.new ≡ a.left) × IsMade (variant_of self.old) kind a r) }
         ensures variant { variant_of self.new ≡ variant_of self.old }
         ensures refused { IfErr result (IsUnanswered (variant_of self.old) (client_of self.old) (framed frame.entry)) }
@@ -169,7 +174,7 @@ impl StreamClient {
         alloc: Global,
         kind: TypeName,
         decoder: &mut Decoder,
-    ) -> Result<Option<Reply>, Refusal>
+    ) -> Result<Option<ResponseReply>, Refusal>
         ensures gives { GivesAnswer (variant_of self.old) kind (client_of self.old) decoder.old result (client_of self.new) decoder.new }
         ensures variant { variant_of self.new ≡ variant_of self.old }
     {

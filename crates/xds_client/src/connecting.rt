@@ -41,7 +41,7 @@ pub trait Dials {
 }
 
 /// How a client ended that was to connect.
-pub struct Ended<R, W> {
+pub struct ConnectingEnd<R, W> {
     /// As [`run_client`] answers; or why there was no connection.
     pub answer: Result<(), Refusal>,
     /// The reader and the writer of its connection, as they are then, if there was one.
@@ -49,9 +49,9 @@ pub struct Ended<R, W> {
 }
 
 // Written out: docs/PROVING.md, "Drops".
-impl<R: Drop, W: Drop> Drop for Ended<R, W> {
+impl<R: Drop, W: Drop> Drop for ConnectingEnd<R, W> {
     fn drop(self) {
-        let Ended { answer: _, ends: _ } = self;
+        let ConnectingEnd { answer: _, ends: _ } = self;
     }
 }
 
@@ -63,12 +63,12 @@ pub fn run_at<D: Dials, O: Write>(
     addr: SocketAddrV4,
     wish: &Subscription<'_>,
     output: &mut Counted<O>,
-) -> Ended<D::Reader, D::Writer>
+) -> ConnectingEnd<D::Reader, D::Writer>
     ensures { RunsBy (D.dials dials.old dials.new addr) D.Reader.remaining D.Writer.contents wish.now result (seen O.contents output.old output.new) }
 {
     match dials.dial(alloc, addr) {
         Ok((reader, writer)) => run_over(alloc, wish, reader, writer, output),
-        Err(refusal) => Ended {
+        Err(refusal) => ConnectingEnd {
             answer: Err(refusal),
             ends: None,
         },
@@ -82,13 +82,13 @@ fn run_over<R: Read + Drop, W: Write + Drop, O: Write>(
     reader: R,
     writer: W,
     output: &mut Counted<O>,
-) -> Ended<R, W>
+) -> ConnectingEnd<R, W>
     ensures { RunsOver reader writer R.remaining W.contents wish.now result (seen O.contents output.old output.new) }
 {
     let mut reader = Counted::new(reader);
     let mut writer = Counted::new(writer);
     let answer = run_client(alloc, wish, &mut reader, &mut writer, output);
-    Ended {
+    ConnectingEnd {
         answer,
         ends: Some((reader, writer)),
     }

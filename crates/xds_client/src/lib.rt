@@ -8,6 +8,6 @@ pub mod printing;
 pub mod running;
 pub mod subscription;
 
-pub use connecting::{Dials, Ended, Side, Tcp, run_at};
+pub use connecting::{ConnectingEnd, Dials, Side, Tcp, run_at};
 pub use running::run_client;
 pub use subscription::{StreamVariant, Subscription};

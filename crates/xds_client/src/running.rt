@@ -5,7 +5,7 @@ ghost use Rattle.xds_frames.specs.Frames.{IsPartial};
 ghost use Rattle.xds_client.specs.Running.{Runs, Serves, Starts};
 ghost use Rattle.xds_client.specs.Turning.{Fills, Turns, client_of, devices, left_to_do, variant_of};
 
-use crate::answering::{Reply, StreamClient};
+use crate::answering::{ResponseReply, StreamClient};
 use crate::opening::open;
 use crate::subscription::Subscription;
 use std::alloc::Global;

@@ -6,8 +6,8 @@ ghost use Rattle.xds_commands.specs.Routes.{routed};
 
 use crate::changing::{Changing, push, told};
 use crate::page::{head_html, tail_html};
-use crate::reached::{MOST_MILLISECONDS, Reached};
-use crate::routes::{Route, routed};
+use crate::reached::{MOST_MILLISECONDS, ReachedReplica};
+use crate::routes::{OperatorRoute, routed};
 use crate::sharing::{Listing, Merging, PLAIN, plain};
 use std::alloc::Global;
 use std::sync::{Arc, Wait};
@@ -15,8 +15,8 @@ use std::time::{Clock, Duration};
 use xds_changes::choice::{Choice, Unchosen, choice_in};
 use xds_changes::contents::push_content;
 use xds_changes::order::Answers;
-use xds_changes::wanting::{Wanted, read_wanted};
-use xds_checker::checker::Asks;
+use xds_changes::wanting::{WantedWrites, read_wanted};
+use xds_checker::checker::CheckerLink;
 use xds_http::{Head, Page, Pages, Part};
 use xds_machine::deadline::Deadline;
 use xds_machine::door::refused_at;
@@ -26,9 +26,9 @@ use xds_notes::{End, Ending};
 use xds_program::VERSION;
 use xds_replicas::moves::Moves;
 use xds_replicas::sourcing::Source;
-use xds_replicas::storing::{Progress, Told, owned};
+use xds_replicas::storing::{Progress, StoreTold, owned};
 use xds_resource::Refusal;
-use xds_stats::{LogEvent, Look, Shown, millis_now, numbers_text, utc_text};
+use xds_stats::{LogEvent, ReplicaNumbers, ReplicaSizes, millis_now, numbers_text, utc_text};
 
 // The kinds of what is answered.
 const NUMBERS: &str = "text/plain; version=0.0.4";
@@ -39,7 +39,7 @@ const HTML: &str = "text/html; charset=utf-8";
 
 /// What an operator's port answers by: the replicas, of which the first has number 1, and how the server ends.
 pub(crate) struct Admin {
-    pub replicas: Vec<Reached>,
+    pub replicas: Vec<ReachedReplica>,
     /// How far writes are stored, if they are.
     pub store: Option<Arc<Progress>>,
     /// The folder that resources come from, if there is one.
@@ -52,7 +52,7 @@ pub(crate) struct Admin {
     /// What requests say, where they have to.
     pub bearer: Option<String>,
     /// What a checker of resources is asked by, if there is one.
-    pub asks: Option<Arc<Asks>>,
+    pub asks: Option<Arc<CheckerLink>>,
 }
 
 // Written out: docs/PROVING.md, "Drops".
@@ -115,7 +115,7 @@ impl Pages for Admin {
 }
 
 // What is known of a store, in words.
-fn store_state(alloc: Global, told: Told) -> Result<String, Refusal> {
+fn store_state(alloc: Global, told: StoreTold) -> Result<String, Refusal> {
     match told.failing {
         Some(unstored) => unstored.text(alloc),
         None => owned(alloc, "goes on"),
@@ -123,7 +123,7 @@ fn store_state(alloc: Global, told: Told) -> Result<String, Refusal> {
 }
 
 // The numbers of a store, in the text format of Prometheus.
-fn stored_text(alloc: Global, told: Told) -> Result<String, Refusal>
+fn stored_text(alloc: Global, told: StoreTold) -> Result<String, Refusal>
     ensures { IfOk result (λ t. string_bytes t ≡ stored_text told.commits told.failures (is_some told.failing)) }
 {
     let commits = told.commits;
@@ -171,22 +171,24 @@ impl Admin {
         &self,
         rt: &R,
         alloc: Global,
-        route: Route,
+        route: OperatorRoute,
         head: &Head,
         body: &[u8],
     ) -> Result<Result<Page, Doing>, Refusal> {
         match route {
-            Route::Health => whole(found_of(PLAIN, owned(alloc, "ok\n"))),
-            Route::Ready => whole(self.ready(rt, alloc)),
-            Route::Open => whole(self.open(rt, alloc)),
-            Route::Metrics => whole(found_of(NUMBERS, self.numbers(rt, alloc))),
-            Route::Status => whole(found_of(JSON, self.status(rt, alloc))),
-            Route::Changes => self.begin_changes(alloc, head, body),
-            Route::Resources => whole(self.chosen(rt, alloc, head)),
-            Route::Page => whole(found_of(HTML, self.html(rt, alloc))),
-            Route::Lines => whole(found_of(PLAIN, self.lines(rt, alloc))),
-            Route::Writes | Route::Merge => self.begin_writes(rt, alloc, route, head, body),
-            Route::Stop => whole(self.stop(rt, alloc)),
+            OperatorRoute::Health => whole(found_of(PLAIN, owned(alloc, "ok\n"))),
+            OperatorRoute::Ready => whole(self.ready(rt, alloc)),
+            OperatorRoute::Open => whole(self.open(rt, alloc)),
+            OperatorRoute::Metrics => whole(found_of(NUMBERS, self.numbers(rt, alloc))),
+            OperatorRoute::Status => whole(found_of(JSON, self.status(rt, alloc))),
+            OperatorRoute::Changes => self.begin_changes(alloc, head, body),
+            OperatorRoute::Resources => whole(self.chosen(rt, alloc, head)),
+            OperatorRoute::Page => whole(found_of(HTML, self.html(rt, alloc))),
+            OperatorRoute::Lines => whole(found_of(PLAIN, self.lines(rt, alloc))),
+            OperatorRoute::Writes | OperatorRoute::Merge => self.begin_writes(
+                rt, alloc, route, head, body,
+            ),
+            OperatorRoute::Stop => whole(self.stop(rt, alloc)),
         }
     }
 
@@ -211,7 +213,7 @@ impl Admin {
         &self,
         rt: &R,
         alloc: Global,
-        route: Route,
+        route: OperatorRoute,
         head: &Head,
         body: &[u8],
     ) -> Result<Result<Page, Doing>, Refusal> {
@@ -287,7 +289,7 @@ impl Admin {
 
     // What a query of writes asks for, and of which replica; or the status that refuses it: 400 where it is none, and 404 where no such
     // replica is there.
-    fn wanted(&self, query: &str) -> Result<(Wanted, &Reached), u16> {
+    fn wanted(&self, query: &str) -> Result<(WantedWrites, &ReachedReplica), u16> {
         let Some(wanted) = read_wanted(query) else {
             return Err(400);
         };
@@ -313,7 +315,11 @@ impl Admin {
     }
 
     // What each replica holds, where its thread answers in time. All are asked before one is waited for.
-    fn looks<R: Wait + Clock>(&self, rt: &R, alloc: Global) -> Result<Vec<Option<Look>>, Refusal> {
+    fn looks<R: Wait + Clock>(
+        &self,
+        rt: &R,
+        alloc: Global,
+    ) -> Result<Vec<Option<ReplicaSizes>>, Refusal> {
         let deadline = Deadline::within(rt, Duration::from_millis(MOST_MILLISECONDS));
         let asked = self.asked(rt, alloc, deadline)?;
         self.answers(rt, alloc, asked, deadline)
@@ -325,7 +331,7 @@ impl Admin {
         rt: &R,
         alloc: Global,
         deadline: Deadline,
-    ) -> Result<Vec<Option<Answers<Look>>>, Refusal> {
+    ) -> Result<Vec<Option<Answers<ReplicaSizes>>>, Refusal> {
         let mut asked = Vec::new(alloc);
         for replica in &self.replicas {
             asked.push(replica.ask(rt, alloc, deadline))?;
@@ -338,9 +344,9 @@ impl Admin {
         &self,
         rt: &R,
         alloc: Global,
-        asked: Vec<Option<Answers<Look>>>,
+        asked: Vec<Option<Answers<ReplicaSizes>>>,
         deadline: Deadline,
-    ) -> Result<Vec<Option<Look>>, Refusal> {
+    ) -> Result<Vec<Option<ReplicaSizes>>, Refusal> {
         let mut looks = Vec::new(alloc);
         for (replica, asked) in self.replicas.iter().zip(asked) {
             looks.push(replica.look(rt, asked, deadline))?;
@@ -388,11 +394,11 @@ impl Admin {
         &self,
         rt: &R,
         alloc: Global,
-        looks: Vec<Option<Look>>,
-    ) -> Result<Vec<Shown>, Refusal> {
+        looks: Vec<Option<ReplicaSizes>>,
+    ) -> Result<Vec<ReplicaNumbers>, Refusal> {
         let mut shown = Vec::new(alloc);
         for (replica, look) in self.replicas.iter().zip(looks) {
-            shown.push(Shown {
+            shown.push(ReplicaNumbers {
                 replica: replica.lookout.replica(),
                 look,
                 numbers: replica.lookout.numbers(rt),
@@ -499,12 +505,12 @@ impl Admin {
 fn share_writes<R: Wait + Clock>(
     rt: &R,
     alloc: Global,
-    route: Route,
-    wanted: Wanted,
-    replica: &Reached,
+    route: OperatorRoute,
+    wanted: WantedWrites,
+    replica: &ReachedReplica,
     body: &[u8],
 ) -> Result<Result<Page, Doing>, Refusal> {
-    if route == Route::Writes {
+    if route == OperatorRoute::Writes {
         return Ok(Err(Doing::Writes(Listing::new(rt, wanted))));
     }
     match Merging::begin(rt, alloc, &replica.orders, body)? {
@@ -554,7 +560,7 @@ fn push_chosen<R: Wait + Clock>(
     rt: &R,
     alloc: Global,
     text: &mut String,
-    replica: &Reached,
+    replica: &ReachedReplica,
     choice: &Choice,
     deadline: Deadline,
 ) -> Result<bool, Refusal> {

@@ -12,7 +12,7 @@ use std::os::unix::fs::OpenOptionsExt;
 use std::rt::Files;
 use std::sync::Arc;
 use xds_changes::given::number_over;
-use xds_checker::checker::Asks;
+use xds_checker::checker::CheckerLink;
 use xds_frames::{Counted, read_whole};
 use xds_machine::files::FileFault;
 use xds_machine::machine::Runtime;
@@ -21,7 +21,7 @@ use xds_machine::threads::share;
 use xds_message::Batch;
 use xds_monitor::PRIVATE;
 use xds_program::read_writes;
-use xds_replicas::sourcing::{Said as FolderSaid, Source, made_over, said_by};
+use xds_replicas::sourcing::{FolderContents, Source, made_over, said_by};
 use xds_replicas::storing::{Progress, Storage};
 use xds_resource::Refusal;
 use xds_store::StoreRefusal;
@@ -113,7 +113,7 @@ pub(crate) fn begin_with<R>(
     alloc: Global,
     serving: Serving,
     files: ServeFiles<'_>,
-    asks: Option<&Asks>,
+    asks: Option<&CheckerLink>,
 ) -> Result<Begun, Unbegun>
 where
     R: Runtime + Files<File = File>,
@@ -155,7 +155,7 @@ where
 }
 
 // What a folder says.
-fn folder_in<R: Runtime>(rt: &R, alloc: Global, path: &str) -> Result<FolderSaid, Unbegun> {
+fn folder_in<R: Runtime>(rt: &R, alloc: Global, path: &str) -> Result<FolderContents, Unbegun> {
     match said_by(rt, alloc, path) {
         Ok(Ok(said)) => Ok(said),
         Ok(Err(text)) => {
@@ -173,7 +173,7 @@ fn folder_in<R: Runtime>(rt: &R, alloc: Global, path: &str) -> Result<FolderSaid
 fn source_of(
     alloc: Global,
     path: Option<&str>,
-    said: Option<FolderSaid>,
+    said: Option<FolderContents>,
 ) -> Result<Option<Arc<Source>>, Refusal> {
     match (path, said) {
         (Some(path), Some(said)) => {
@@ -190,7 +190,7 @@ pub(crate) fn with_folder(
     alloc: Global,
     serving: Serving,
     world: Batch,
-    said: &Option<FolderSaid>,
+    said: &Option<FolderContents>,
 ) -> Result<Batch, Unbegun> {
     match said {
         Some(said) => match made_over(alloc, world, said, first_number(serving)) {
@@ -268,7 +268,7 @@ fn begun_anew<R>(
     serving: Serving,
     given: Option<Batch>,
     load: Option<Loaded<'_>>,
-    said: &Option<FolderSaid>,
+    said: &Option<FolderContents>,
 ) -> Result<Begun, Unbegun>
 where
     R: Runtime + Files<File = File>,
@@ -305,7 +305,7 @@ fn begun_stored<R>(
     path: &str,
     given: Option<Batch>,
     load: Option<Loaded<'_>>,
-    said: &Option<FolderSaid>,
+    said: &Option<FolderContents>,
 ) -> Result<Begun, Unbegun>
 where
     R: Runtime + Files<File = File>,

@@ -12,14 +12,14 @@ use std::time::{Clock, Duration};
 use xds_causes::Cause;
 use xds_changes::change::Change;
 use xds_changes::choice::Choice;
-use xds_changes::kept::{Kept, Said};
 use xds_changes::made::changes_status;
-use xds_checker::checked_changes::{Asking, NextLine, Whys, begin_asking, told_line};
+use xds_changes::said_lines::{Kept, SaidLine};
+use xds_checker::checked_changes::{AskedLine, NextLine, Whys, begin_asking, told_line};
 use xds_core::Marks;
 use xds_http::{Page, Part};
 use xds_machine::deadline::Deadline;
 use xds_notes::{Fault, stamp_line};
-use xds_replicas::joint::{AllMade, Joint, Step, refused, unstored_line};
+use xds_replicas::joint::{AllMade, ChangeStep, Joint, refused, unstored_line};
 use xds_replicas::storing::Reached as Reach;
 use xds_resource::{Refusal, Stamp};
 use xds_world::lines::split_line;
@@ -57,7 +57,7 @@ pub(crate) struct Changing {
     // The changes, where they are looked at alone, or made together.
     joint: Option<Joint>,
     // The line of whose resource a checker is asked, if there is one, and what it told of others.
-    asking: Option<Asking>,
+    asking: Option<AskedLine>,
     whys: Whys,
     // Once all were made, until when they are to be stored, and the counts of changes of each replica then.
     storing: Option<(Deadline, Vec<Marks>)>,
@@ -264,7 +264,7 @@ impl Admin {
         &self,
         rt: &R,
         alloc: Global,
-        line: Said,
+        line: SaidLine,
         is_last: bool,
         work: &mut Changing,
     ) -> Result<(), Refusal> {
@@ -319,12 +319,12 @@ impl Admin {
             return Ok(true);
         }
         match joint.step(rt, alloc, Duration::from_millis(PART_MILLISECONDS))? {
-            Step::Done => {
+            ChangeStep::Done => {
                 self.warn(rt, alloc, work)?;
                 Ok(true)
             }
-            Step::Wait => Ok(false),
-            Step::Hand(place, changes) => {
+            ChangeStep::Wait => Ok(false),
+            ChangeStep::Hand(place, changes) => {
                 self.hand_joint(rt, alloc, joint, place, changes)?;
                 Ok(false)
             }
@@ -394,10 +394,10 @@ impl Admin {
         &self,
         rt: &R,
         alloc: Global,
-        said: Said,
+        said: SaidLine,
         work: &mut Changing,
     ) -> Result<(), Refusal> {
-        let Said { line, what } = said;
+        let SaidLine { line, what } = said;
         let made = match what {
             Ok(None) => return Ok(()),
             Ok(Some(change)) => self.make(rt, alloc, change, &mut work.is_stuck),
@@ -477,7 +477,7 @@ impl Changing {
     }
 
     // Takes what a line says that is made together with others.
-    fn join(&mut self, alloc: Global, said: Said, is_last: bool) -> Result<(), Refusal> {
+    fn join(&mut self, alloc: Global, said: SaidLine, is_last: bool) -> Result<(), Refusal> {
         match &mut self.joint {
             Some(joint) => {
                 joint.is_read = is_last;
@@ -527,7 +527,7 @@ impl Changing {
     }
 
     // What the next line says, and whether it is the last.
-    fn next(&mut self, alloc: Global) -> (Said, bool) {
+    fn next(&mut self, alloc: Global) -> (SaidLine, bool) {
         let body = self.body.as_slice();
         let rest = &body[self.at.min(body.len())..];
         match split_line(rest) {

@@ -18,6 +18,6 @@ mod world;
 
 pub use beginning::ServeFiles;
 pub use commands::run;
-pub use progress::{Progress, ProgressReader};
-pub use routes::{Route, routed};
+pub use progress::{ProgressReader, RunProgress};
+pub use routes::{OperatorRoute, routed};
 pub use server::{Serving, serve};

@@ -2,7 +2,7 @@
 use std::alloc::Global;
 use xds_program::VERSION;
 use xds_resource::{Refusal, TypeName};
-use xds_stats::{Look, Numbers, escaped};
+use xds_stats::{Numbers, ReplicaSizes, escaped};
 
 // What stands before the replicas: after so many seconds a browser loads the page again.
 const HEAD: &str =
@@ -26,7 +26,7 @@ pub(crate) fn replica_html(alloc: Global, place: u16, number: u16) -> Result<Str
 /// What a replica holds, where that is known, and what was counted of it.
 pub(crate) fn counts_html(
     alloc: Global,
-    look: Option<Look>,
+    look: Option<ReplicaSizes>,
     numbers: &Numbers,
 ) -> Result<String, Refusal> {
     let mut text = String::from_str(
@@ -52,7 +52,7 @@ pub(crate) fn counts_html(
 fn kind_html(
     alloc: Global,
     kind: TypeName,
-    look: Option<Look>,
+    look: Option<ReplicaSizes>,
     numbers: &Numbers,
 ) -> Result<String, Refusal> {
     let held = held_html(alloc, kind, look)?;
@@ -68,7 +68,7 @@ fn kind_html(
 }
 
 // What is held of a type, where that is known.
-fn held_html(alloc: Global, kind: TypeName, look: Option<Look>) -> Result<String, Refusal> {
+fn held_html(alloc: Global, kind: TypeName, look: Option<ReplicaSizes>) -> Result<String, Refusal> {
     let Some(look) = look else {
         return Ok(String::from_str(alloc, "<td>?</td><td>?</td><td>?</td>")?);
     };

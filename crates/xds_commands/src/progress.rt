@@ -20,7 +20,7 @@ const STEP: u64 = 2;
 const MEGABYTE: u64 = 1_000_000;
 
 /// How far a run is. The thread that works and the one that tells share it.
-pub struct Progress {
+pub struct RunProgress {
     // How many bytes of the input were read.
     read: AtomicU64,
     // Whether the input was read to its end.
@@ -30,9 +30,9 @@ pub struct Progress {
 }
 
 // Written out: docs/PROVING.md, "Drops".
-impl Drop for Progress {
+impl Drop for RunProgress {
     fn drop(self) {
-        let Progress {
+        let RunProgress {
             read: _,
             has_ended: _,
             is_done: _,
@@ -40,10 +40,10 @@ impl Drop for Progress {
     }
 }
 
-impl Progress {
+impl RunProgress {
     /// Nothing was read.
-    pub fn new() -> Progress {
-        Progress {
+    pub fn new() -> RunProgress {
+        RunProgress {
             read: AtomicU64::new(0),
             has_ended: AtomicBool::new(false),
             is_done: AtomicBool::new(false),
@@ -76,12 +76,12 @@ impl Progress {
 #[derive(Drop)]
 pub struct ProgressReader<D> {
     pub inner: D,
-    progress: Option<Arc<Progress>>,
+    progress: Option<Arc<RunProgress>>,
 }
 
 impl<D> ProgressReader<D> {
     /// Counts what is read for this progress.
-    pub fn new(inner: D, progress: Arc<Progress>) -> ProgressReader<D>
+    pub fn new(inner: D, progress: Arc<RunProgress>) -> ProgressReader<D>
         ensures { result.inner ≡ inner }
     {
         ProgressReader {
@@ -134,12 +134,12 @@ impl<D: Read> Read for ProgressReader<D> {
 }
 
 // Starts the thread that tells how far a run is.
-fn start_telling<R, P>(rt: &R, terminal: P) -> Result<Arc<Progress>, Refusal>
+fn start_telling<R, P>(rt: &R, terminal: P) -> Result<Arc<RunProgress>, Refusal>
 where
     R: Runtime,
     P: Write + Drop + Send + 'static,
 {
-    let progress = match Arc::new(rt.alloc(), Progress::new()) {
+    let progress = match Arc::new(rt.alloc(), RunProgress::new()) {
         Ok(progress) => progress,
         Err(_) => {
             drop(terminal);
@@ -154,7 +154,7 @@ where
 }
 
 // Tells how far a run is, again and again, until it is done. A terminal that fails is passed over.
-fn tell_on<R: Clock + AllocGlobal, P: Write>(rt: &R, progress: &Progress, terminal: &mut P) {
+fn tell_on<R: Clock + AllocGlobal, P: Write>(rt: &R, progress: &RunProgress, terminal: &mut P) {
     let mut seconds = 0u64;
     for _ in 0..u64::MAX {
         thread::sleep(rt, Duration::from_secs(STEP));

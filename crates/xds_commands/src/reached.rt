@@ -14,25 +14,25 @@ use xds_monitor::{Lookout, Tape, recorded_text};
 use xds_notes::Fault;
 use xds_replicas::joint::AllMade;
 use xds_resource::{Refusal, Stamp};
-use xds_stats::{Look, responses_json, warnings_html};
+use xds_stats::{ReplicaSizes, responses_json, warnings_html};
 
 /// As many milliseconds as are waited for what replicas' threads answer to one request, or to one line of many.
 pub(crate) const MOST_MILLISECONDS: u64 = 1_000;
 
 /// A replica, as an operator's port reaches it.
-pub(crate) struct Reached {
+pub(crate) struct ReachedReplica {
     pub lookout: Arc<Lookout>,
     pub orders: Sender<Order>,
     /// What its trace is recorded on, if it is.
     pub tape: Option<Arc<Tape>>,
     /// The answer to a question of what it holds, which didn't come in time.
-    pub late: Mutex<Option<Answers<Look>>>,
+    pub late: Mutex<Option<Answers<ReplicaSizes>>>,
 }
 
 // Written out: docs/PROVING.md, "Drops".
-impl Drop for Reached {
+impl Drop for ReachedReplica {
     fn drop(self) {
-        let Reached {
+        let ReachedReplica {
             lookout: _,
             orders: _,
             tape: _,
@@ -41,7 +41,7 @@ impl Drop for Reached {
     }
 }
 
-impl Reached {
+impl ReachedReplica {
     // Hands an order to the replica's thread. Whether there was room for it in time.
     fn hand<R: Wait + Clock>(&self, rt: &R, order: Order, deadline: Deadline) -> bool {
         self.orders
@@ -55,7 +55,7 @@ impl Reached {
         rt: &R,
         alloc: Global,
         deadline: Deadline,
-    ) -> Option<Answers<Look>> {
+    ) -> Option<Answers<ReplicaSizes>> {
         match self.late_answer(rt) {
             Some(late) => Some(late),
             None => self.ask_anew(rt, alloc, deadline),
@@ -67,7 +67,7 @@ impl Reached {
         rt: &R,
         alloc: Global,
         deadline: Deadline,
-    ) -> Option<Answers<Look>> {
+    ) -> Option<Answers<ReplicaSizes>> {
         let Ok((to, from)) = unbounded(alloc) else {
             return None;
         };
@@ -79,7 +79,7 @@ impl Reached {
     }
 
     // What a question before is still answered by. An answer that has come meanwhile is passed over.
-    fn late_answer<R: Wait>(&self, rt: &R) -> Option<Answers<Look>> {
+    fn late_answer<R: Wait>(&self, rt: &R) -> Option<Answers<ReplicaSizes>> {
         let late = mem::replace(&mut *self.late.lock(rt), None);
         match late {
             Some(from) => match from.try_recv(rt) {
@@ -94,9 +94,9 @@ impl Reached {
     pub(crate) fn look<R: Wait + Clock>(
         &self,
         rt: &R,
-        asked: Option<Answers<Look>>,
+        asked: Option<Answers<ReplicaSizes>>,
         deadline: Deadline,
-    ) -> Option<Look> {
+    ) -> Option<ReplicaSizes> {
         let Some(from) = asked else {
             return None;
         };
@@ -201,7 +201,7 @@ impl Reached {
         &self,
         rt: &R,
         alloc: Global,
-        look: Option<Look>,
+        look: Option<ReplicaSizes>,
         millis: u64,
     ) -> Result<String, Refusal> {
         let lookout = &self.lookout;
@@ -222,7 +222,7 @@ impl Reached {
         &self,
         rt: &R,
         alloc: Global,
-        look: Option<Look>,
+        look: Option<ReplicaSizes>,
     ) -> Result<String, Refusal> {
         let place = self.lookout.replica();
         let number = self.lookout.number();

@@ -4,7 +4,7 @@ ghost use Rattle.xds_commands.specs.Routes.{also_at, found_at, routed, routed_am
 
 /// What an operator asks for.
 #[derive(Clone, Copy, Debug, PartialEq, Eq)]
-pub enum Route {
+pub enum OperatorRoute {
     /// Whether the server runs.
     Health,
     /// Whether each replica takes changes, and clients are answered.
@@ -28,37 +28,37 @@ pub enum Route {
 }
 
 // What is found at a path, and by which method.
-fn at_path(path: &str) -> Option<(Route, &'static str)>
+fn at_path(path: &str) -> Option<(OperatorRoute, &'static str)>
     ensures { option_map (λ p. (p.0, p.1.now)) result ≡ found_at path.now }
 {
     match path {
-        "/healthz" => Some((Route::Health, "GET")),
-        "/ready" => Some((Route::Ready, "GET")),
-        "/metrics" => Some((Route::Metrics, "GET")),
-        "/status" => Some((Route::Status, "GET")),
-        "/changes" => Some((Route::Changes, "POST")),
-        "/writes" => Some((Route::Writes, "GET")),
-        "/stop" => Some((Route::Stop, "POST")),
-        "/resources" => Some((Route::Resources, "GET")),
-        "/" => Some((Route::Page, "GET")),
-        "/status.txt" => Some((Route::Lines, "GET")),
+        "/healthz" => Some((OperatorRoute::Health, "GET")),
+        "/ready" => Some((OperatorRoute::Ready, "GET")),
+        "/metrics" => Some((OperatorRoute::Metrics, "GET")),
+        "/status" => Some((OperatorRoute::Status, "GET")),
+        "/changes" => Some((OperatorRoute::Changes, "POST")),
+        "/writes" => Some((OperatorRoute::Writes, "GET")),
+        "/stop" => Some((OperatorRoute::Stop, "POST")),
+        "/resources" => Some((OperatorRoute::Resources, "GET")),
+        "/" => Some((OperatorRoute::Page, "GET")),
+        "/status.txt" => Some((OperatorRoute::Lines, "GET")),
         _ => None,
     }
 }
 
 // What else is found at a path, and by which method.
-fn also_at_path(path: &str) -> Option<(Route, &'static str)>
+fn also_at_path(path: &str) -> Option<(OperatorRoute, &'static str)>
     ensures { option_map (λ p. (p.0, p.1.now)) result ≡ also_at path.now }
 {
     match path {
-        "/ready" => Some((Route::Open, "POST")),
-        "/writes" => Some((Route::Merge, "POST")),
+        "/ready" => Some((OperatorRoute::Open, "POST")),
+        "/writes" => Some((OperatorRoute::Merge, "POST")),
         _ => None,
     }
 }
 
 // What a request of this method asks for by what else is found at a path, or 405.
-fn routed_else(method: &str, path: &str) -> Result<Route, u16>
+fn routed_else(method: &str, path: &str) -> Result<OperatorRoute, u16>
     ensures { result ≡ routed_among method.now (also_at path.now) }
 {
     match also_at_path(path) {
@@ -75,7 +75,7 @@ fn routed_else(method: &str, path: &str) -> Result<Route, u16>
 
 /// What a request of this method at this path asks for, or the status that refuses it: 404 where nothing is there, and 405 where it is
 /// asked for by another method.
-pub fn routed(method: &str, path: &str) -> Result<Route, u16>
+pub fn routed(method: &str, path: &str) -> Result<OperatorRoute, u16>
     ensures { result ≡ routed method.now path.now }
 {
     match at_path(path) {

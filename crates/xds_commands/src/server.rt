@@ -5,7 +5,7 @@ ghost use Rattle.xds_commands.specs.Servings.{limits_of};
 use crate::admin::Admin;
 use crate::beginning::{Begun, ServeFiles, begin_with, first_number};
 use crate::binding::{Beside, Bindings, BoundAdmin, Unbound, all_bound, bound};
-use crate::reached::Reached;
+use crate::reached::ReachedReplica;
 use crate::starting::{
     shared_asks, shared_tape, start_admin, start_input, start_opener, start_replica, start_teller,
 };
@@ -21,7 +21,7 @@ use std::thread;
 use std::time::{Clock, Duration};
 use xds_changes::loading::number_at;
 use xds_changes::order::Order;
-use xds_checker::checker::{Asks, start_checker};
+use xds_checker::checker::{CheckerLink, start_checker};
 use xds_exchange::link;
 use xds_frames::Counted;
 use xds_machine::deadline::Deadline;
@@ -34,7 +34,7 @@ use xds_notes::ending::DRAIN_SECONDS;
 use xds_notes::{End, Ending, Note, Telling};
 use xds_replicas::linting::start_linting;
 use xds_replicas::moves::Moves;
-use xds_replicas::replica::{Sends, Sockets, Takes};
+use xds_replicas::replica::{Sends, Sockets, TakingEnds};
 use xds_replicas::sizing::start_sizing;
 use xds_replicas::sourcing::{Source, start_sourcing};
 use xds_replicas::storing::{Progress, owned};
@@ -98,7 +98,7 @@ const STORE_SECONDS: u64 = 60;
 const NOT_ALL: &str = "doesn't have the last writes";
 
 // What the replicas are started with, and what changes of the input are sent by.
-type Wiring = Wires<Sockets, Sender<Order>, Receiver<Order>, Sends, Takes>;
+type Wiring = Wires<Sockets, Sender<Order>, Receiver<Order>, Sends, TakingEnds>;
 
 /// Serves until so many streams have ended as are asked for, or a line of the input is refused, and answers the status: 0,
 /// or 1 with the refusal on the error output. A server that keeps going tells such a line, and reads the next. All ports are bound before anything is read; one that can't be is told with
@@ -147,7 +147,7 @@ fn checker_of<R: Machine>(
     rt: &R,
     alloc: Global,
     checker: Option<(SocketAddrV4, bool)>,
-) -> Result<Option<Arc<Asks>>, Refusal> {
+) -> Result<Option<Arc<CheckerLink>>, Refusal> {
     match checker {
         Some((addr, passes)) => {
             let asks = start_checker(rt, alloc, addr, passes)?;
@@ -166,7 +166,7 @@ fn serve_checked<R, I, E, T>(
     teller: Option<T>,
     serving: Serving,
     files: ServeFiles<'_>,
-    asks: &Option<Arc<Asks>>,
+    asks: &Option<Arc<CheckerLink>>,
 ) -> u8
 where
     R: Machine + Files<File = File>,
@@ -198,7 +198,7 @@ fn serve_world<R, I, E, T>(
     teller: Option<T>,
     begun: Begun,
     folder: Option<&str>,
-    asks: &Option<Arc<Asks>>,
+    asks: &Option<Arc<CheckerLink>>,
 ) -> u8
 where
     R: Machine + Files<File = File>,
@@ -239,7 +239,7 @@ fn serve_recorded<R, I, E, T>(
     serving: Serving,
     is_new: bool,
     folder: Option<&str>,
-    asks: &Option<Arc<Asks>>,
+    asks: &Option<Arc<CheckerLink>>,
 ) -> u8
 where
     R: Machine + Files<File = File>,
@@ -306,7 +306,7 @@ fn run<R, I, E, T>(
     doors: Bindings,
     tapes: &Vec<Arc<Tape>>,
     serving: Serving,
-    asks: &Option<Arc<Asks>>,
+    asks: &Option<Arc<CheckerLink>>,
 ) -> Result<u8, Refusal>
 where
     R: Machine,
@@ -461,7 +461,7 @@ fn start<R, I>(
     progress: &Option<Arc<Progress>>,
     beside: &Beside,
     ending: &Arc<Ending>,
-    asks: &Option<Arc<Asks>>,
+    asks: &Option<Arc<CheckerLink>>,
 ) -> Result<(), Refusal>
 where
     R: Machine,
@@ -550,14 +550,14 @@ fn reached_by(
     senders: &[Sender<Order>],
     lookouts: &Vec<Arc<Lookout>>,
     tapes: &Vec<Arc<Tape>>,
-) -> Result<Vec<Reached>, Refusal> {
+) -> Result<Vec<ReachedReplica>, Refusal> {
     let mut replicas = Vec::new(alloc);
     let mut tapes = tapes.iter();
     for (sender, lookout) in senders.iter().zip(lookouts.iter()) {
         let lookout = share(lookout)?;
         let tape = shared_tape(tapes.next())?;
         let orders = sender.clone()?;
-        replicas.push(Reached {
+        replicas.push(ReachedReplica {
             lookout,
             orders,
             tape,
@@ -579,7 +579,7 @@ fn desk_of(
     moves: Arc<Moves>,
     meter: Meter,
     bearer: Option<String>,
-    asks: &Option<Arc<Asks>>,
+    asks: &Option<Arc<CheckerLink>>,
 ) -> Result<Admin, Refusal> {
     let replicas = reached_by(alloc, senders, lookouts, tapes)?;
     let store = match progress {
@@ -611,7 +611,7 @@ struct Channels {
     alloc: Global,
 }
 
-impl Links<Sender<Order>, Receiver<Order>, Sends, Takes> for Channels {
+impl Links<Sender<Order>, Receiver<Order>, Sends, TakingEnds> for Channels {
     ghost use Rattle.xds_commands.specs.Channels.{AreJoinedBy};
 
     ghost linked = { AreJoinedBy };
@@ -620,7 +620,7 @@ impl Links<Sender<Order>, Receiver<Order>, Sends, Takes> for Channels {
         bounded(self.alloc, MOST_WAITING)
     }
 
-    fn ends(&self) -> Result<(Sends, Takes), AllocError> {
+    fn ends(&self) -> Result<(Sends, TakingEnds), AllocError> {
         crossed(link(self.alloc), link(self.alloc))
     }
 }

@@ -7,7 +7,7 @@ use std::sync::Wait;
 use std::time::{Clock, Duration};
 use xds_changes::marking::marks_text;
 use xds_changes::order::{Answers, Order};
-use xds_changes::wanting::Wanted;
+use xds_changes::wanting::WantedWrites;
 use xds_core::Marks;
 use xds_http::{Page, Part};
 use xds_machine::deadline::Deadline;
@@ -57,7 +57,7 @@ impl<T: Drop> Drop for Awaited<T> {
 
 // What has come of an answer.
 #[derive(Drop)]
-enum Heard<T> {
+enum Awaiting<T> {
     Answer(T),
     Nothing,
     Waits,
@@ -65,17 +65,17 @@ enum Heard<T> {
 
 impl<T: Drop> Awaited<T> {
     // The answer, if it comes in a moment. There is none where it is refused, or doesn't come in time.
-    fn hear<R: Wait + Clock>(&self, rt: &R) -> Heard<T> {
+    fn hear<R: Wait + Clock>(&self, rt: &R) -> Awaiting<T> {
         let moment = Duration::from_millis(PART_MILLISECONDS);
         match self.from.recv_timeout(rt, moment) {
-            Ok(Ok(answer)) => Heard::Answer(answer),
+            Ok(Ok(answer)) => Awaiting::Answer(answer),
             Err(RecvTimeoutError::Timeout) => {
                 if self.deadline.rest(rt).is_zero() {
-                    return Heard::Nothing;
+                    return Awaiting::Nothing;
                 }
-                Heard::Waits
+                Awaiting::Waits
             }
-            _ => Heard::Nothing,
+            _ => Awaiting::Nothing,
         }
     }
 }
@@ -104,7 +104,7 @@ where
 
 // How far a list has come.
 #[derive(Drop)]
-enum Stage {
+enum ListStage {
     // It waits until something changed.
     Waiting(Deadline),
     // The replica's thread was asked what changed.
@@ -115,8 +115,8 @@ enum Stage {
 
 /// What a replica holds, or what changed there, on the way to who asked for it.
 pub(crate) struct Listing {
-    wanted: Wanted,
-    stage: Stage,
+    wanted: WantedWrites,
+    stage: ListStage,
 }
 
 // Written out: docs/PROVING.md, "Drops".
@@ -131,11 +131,11 @@ impl Drop for Listing {
 
 impl Listing {
     /// What is wanted, of which nothing is listed.
-    pub(crate) fn new<C: Clock>(clock: &C, wanted: Wanted) -> Listing {
+    pub(crate) fn new<C: Clock>(clock: &C, wanted: WantedWrites) -> Listing {
         let deadline = Deadline::within(clock, Duration::from_secs(wanted.wait));
         Listing {
             wanted,
-            stage: Stage::Waiting(deadline),
+            stage: ListStage::Waiting(deadline),
         }
     }
 
@@ -153,23 +153,26 @@ impl Listing {
         moves: &Moves,
     ) -> Result<Part, Refusal> {
         let next = match &mut self.stage {
-            Stage::Waiting(deadline) => {
+            ListStage::Waiting(deadline) => {
                 let is_past = moves.is_past(rt, self.wanted.replica, self.wanted.since);
                 if !is_past && !deadline.rest(rt).is_zero() {
                     return Ok(Part::Waits);
                 }
                 let since = self.wanted.since;
                 match ask(rt, alloc, orders, move |to| Order::Since(since, to)) {
-                    Some(question) => Stage::Asked(question),
+                    Some(question) => ListStage::Asked(question),
                     None => return Ok(unavailable(alloc)),
                 }
             }
-            Stage::Asked(question) => match question.hear(rt) {
-                Heard::Answer((batch, marks)) => Stage::Making(marks, Lines::of(alloc, batch)),
-                Heard::Nothing => return Ok(unavailable(alloc)),
-                Heard::Waits => return Ok(Part::More),
+            ListStage::Asked(question) => match question.hear(rt) {
+                Awaiting::Answer((batch, marks)) => ListStage::Making(
+                    marks,
+                    Lines::of(alloc, batch),
+                ),
+                Awaiting::Nothing => return Ok(unavailable(alloc)),
+                Awaiting::Waits => return Ok(Part::More),
             },
-            Stage::Making(marks, lines) => {
+            ListStage::Making(marks, lines) => {
                 if !make(rt, alloc, lines)? {
                     return Ok(Part::More);
                 }
@@ -262,9 +265,9 @@ impl Merging {
     /// may still be merged.
     pub(crate) fn go_on<R: Wait + Clock>(&self, rt: &R, alloc: Global) -> Result<Part, Refusal> {
         match self.question.hear(rt) {
-            Heard::Answer(grown) => Ok(Part::Done(plain(200, grown_text(alloc, grown)?))),
-            Heard::Nothing => Ok(unavailable(alloc)),
-            Heard::Waits => Ok(Part::More),
+            Awaiting::Answer(grown) => Ok(Part::Done(plain(200, grown_text(alloc, grown)?))),
+            Awaiting::Nothing => Ok(unavailable(alloc)),
+            Awaiting::Waits => Ok(Part::More),
         }
     }
 }

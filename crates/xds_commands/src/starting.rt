@@ -14,7 +14,7 @@ use xds_changes::input::{Replicas, take_input};
 use xds_changes::keeping::keep_input;
 use xds_changes::order::{Order, copies};
 use xds_changes::ready_line::ReadyReader;
-use xds_checker::checker::Asks;
+use xds_checker::checker::CheckerLink;
 use xds_checker::validating::take_checked;
 use xds_frames::Counted;
 use xds_http::{Replies, Seats, serve_pages};
@@ -24,7 +24,7 @@ use xds_machine::wires::{both, started};
 use xds_monitor::{
     Instrumented, JournalWeight, Lookout, Observer, Piece, SegmentSink, Served, Tape, Turns,
 };
-use xds_node::{Host, Line, Node, NodeName, Opened};
+use xds_node::{Host, JournalLine, NodeName, Opened, SharedNode};
 use xds_notes::ending::DRAIN_SECONDS;
 use xds_notes::{End, Ending};
 use xds_replicas::opening::open_when_asked;
@@ -49,7 +49,7 @@ where
     S: Follows + Drop + Send + Sync + 'static,
 {
     let number = lookout.number().max(1);
-    match Opened::<Line>::new(alloc) {
+    match Opened::<JournalLine>::new(alloc) {
         Ok(opened) => start_named::<R, Brand, S>(rt, alloc, opened, number, replica, lookout, tape),
         Err(_) => {
             drop(replica);
@@ -62,7 +62,7 @@ where
 fn start_named<R, N, S>(
     rt: &R,
     alloc: Global,
-    opened: Opened<Line>,
+    opened: Opened<JournalLine>,
     number: u16,
     replica: ReplicaOver<S>,
     lookout: &Arc<Lookout>,
@@ -76,7 +76,7 @@ where
     requires first { 1 ≤ number }
     requires own { number ≡ N.replica }
 {
-    match Node::<N>::new(alloc, opened, number) {
+    match SharedNode::<N>::new(alloc, opened, number) {
         Ok(node) => start_instrumented(rt, alloc, node, replica, lookout, tape),
         Err(refusal) => {
             drop(replica);
@@ -267,7 +267,7 @@ pub(crate) fn start_input<R, I>(
     keep_going: bool,
     hold: bool,
     ending: &Arc<Ending>,
-    asks: &Option<Arc<Asks>>,
+    asks: &Option<Arc<CheckerLink>>,
 ) -> Result<(), Refusal>
 where
     R: Runtime,
@@ -324,7 +324,9 @@ where
 }
 
 // A share of what a checker is asked by, if there is one.
-pub(crate) fn shared_asks(asks: &Option<Arc<Asks>>) -> Result<Option<Arc<Asks>>, Refusal> {
+pub(crate) fn shared_asks(
+    asks: &Option<Arc<CheckerLink>>,
+) -> Result<Option<Arc<CheckerLink>>, Refusal> {
     match asks {
         Some(asks) => Ok(Some(share(asks)?)),
         None => Ok(None),
@@ -339,7 +341,7 @@ fn read_input<R, I>(
     senders: &[Sender<Order>],
     keep_going: bool,
     ending: &Ending,
-    asks: &Option<Arc<Asks>>,
+    asks: &Option<Arc<CheckerLink>>,
 )
 where
     R: Wait,

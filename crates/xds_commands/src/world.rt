@@ -13,7 +13,7 @@ use std::fs::File;
 use std::io::Read;
 use std::rt::Files;
 use xds_changes::loading::load;
-use xds_checker::checker::Asks;
+use xds_checker::checker::CheckerLink;
 use xds_checker::validating::first_refused;
 use xds_core::Catalogues;
 use xds_frames::{Counted, read_whole};
@@ -23,14 +23,14 @@ use xds_machine::stores::FileStore;
 use xds_message::Batch;
 use xds_notes::End;
 use xds_replicas::fitting::{refused_text, start_fault};
-use xds_replicas::sourcing::Said as FolderSaid;
+use xds_replicas::sourcing::FolderContents;
 use xds_resource::Refusal;
 
 /// A file of lines that are made before anybody is answered, and what a checker of their resources is asked by, if there is one.
 #[derive(Clone, Copy)]
 pub(crate) struct Loaded<'a> {
     pub(crate) file: &'a str,
-    pub(crate) asks: Option<&'a Asks>,
+    pub(crate) asks: Option<&'a CheckerLink>,
 }
 
 // rule: stored
@@ -42,7 +42,7 @@ pub(crate) fn stored_world<R>(
     serving: Serving,
     given: Option<Batch>,
     load: Option<Loaded<'_>>,
-    said: &Option<FolderSaid>,
+    said: &Option<FolderContents>,
 ) -> Result<(Batch, u16), Unbegun>
 where
     R: Runtime + Files<File = File>,
@@ -87,7 +87,7 @@ pub(crate) fn made_world<R>(
     stored: Option<Batch>,
     given: Option<Batch>,
     load: Option<Loaded<'_>>,
-    said: &Option<FolderSaid>,
+    said: &Option<FolderContents>,
 ) -> Result<Batch, Unbegun>
 where
     R: Runtime + Files<File = File>,
@@ -287,7 +287,7 @@ fn seen_bytes<R>(
     alloc: Global,
     opened: File,
     file: &str,
-    asks: &Asks,
+    asks: &CheckerLink,
 ) -> Result<Vec<u8>, Unbegun>
 where
     R: Runtime + Files<File = File>,

@@ -4,10 +4,10 @@ use std::io;
 use std::io::Read;
 use std::sync::Arc;
 use std::test::Fail;
-use xds_commands::{Progress, ProgressReader};
+use xds_commands::{ProgressReader, RunProgress};
 
 // The line that is told after four seconds, or that there is none yet.
-fn line_of(alloc: Global, progress: &Progress) -> Result<String, Fail> {
+fn line_of(alloc: Global, progress: &RunProgress) -> Result<String, Fail> {
     match progress.line(alloc, 4)? {
         Some(line) => Ok(line),
         None => Ok(String::from_str(alloc, "none")?),
@@ -15,7 +15,7 @@ fn line_of(alloc: Global, progress: &Progress) -> Result<String, Fail> {
 }
 
 // That this is told.
-fn tells(alloc: Global, progress: &Progress, wanted: &str) -> Result<(), Fail> {
+fn tells(alloc: Global, progress: &RunProgress, wanted: &str) -> Result<(), Fail> {
     let line = line_of(alloc, progress)?;
     if line.as_str() == wanted {
         Ok(())
@@ -36,7 +36,7 @@ fn read_pieces<R: Read>(reader: &mut R, pieces: u64) -> io::Result<()> {
 #[test]
 fn what_was_read_is_told(rt: HostRuntime) -> Result<(), Fail> {
     let alloc = rt.alloc();
-    let progress = Arc::new(alloc, Progress::new())?;
+    let progress = Arc::new(alloc, RunProgress::new())?;
     let input = io::repeat(10).take(3_500_000);
     let mut reader = ProgressReader::new(input, Arc::try_clone(&progress)?);
     tells(alloc, &progress, "none")?;

@@ -18,4 +18,4 @@ pub use merging::apply;
 pub use moves::link;
 pub use outbox::Outbox;
 pub use outcome::Round;
-pub use peer::{Peer, round};
+pub use peer::{PeerMarks, round};

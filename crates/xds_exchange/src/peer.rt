@@ -20,18 +20,18 @@ use xds_core::{Core, Marks};
 use xds_resource::{Refusal, ResourceType};
 
 /// What a peer was told: for each type, the count of changes up to which it was told all.
-pub struct Peer {
+pub struct PeerMarks {
     marks: Marks,
 }
 
 // Written out: docs/PROVING.md, "Drops".
-impl Drop for Peer {
+impl Drop for PeerMarks {
     fn drop(self) {
-        let Peer { marks: _ } = self;
+        let PeerMarks { marks: _ } = self;
     }
 }
 
-impl Model for Peer {
+impl Model for PeerMarks {
     ghost use Rattle.std.specs.Prelude.{ℕ};
     ghost use Rattle.std.specs.Coded.{coded_ℕ};
     ghost use Rattle.xds_resource.specs.PerType.{PerType, per_type_code};
@@ -44,13 +44,13 @@ impl Model for Peer {
     ghost view = { λ p. counts_of p.marks };
 }
 
-impl Peer {
+impl PeerMarks {
     // rule: marks
     /// A peer that was told nothing.
-    pub fn new() -> Peer
+    pub fn new() -> PeerMarks
         ensures { result ≡ each 0 }
     {
-        Peer {
+        PeerMarks {
             marks: Marks {
                 cluster: 0,
                 endpoint: 0,
@@ -76,7 +76,12 @@ impl Peer {
 ///
 /// What the one knew it still knows after further events at either replica, so that the next round has its premise
 /// (`laws::tellers_may_write`, `laws::hearers_may_write`).
-pub fn round(alloc: Global, from: &Core, to: &mut Core, peer: &mut Peer) -> Result<Round, Refusal>
+pub fn round(
+    alloc: Global,
+    from: &Core,
+    to: &mut Core,
+    peer: &mut PeerMarks,
+) -> Result<Round, Refusal>
     ensures sent { IfOk result (λ r. r.sent ≡ length (told from.now.store peer.old)) }
     ensures merged { IfOk result
         (λ r. AllMerged to.old (told from.now.store peer.old) r.parts r.grown to.new) }
@@ -99,7 +104,12 @@ pub fn round(alloc: Global, from: &Core, to: &mut Core, peer: &mut Peer) -> Resu
 
 // One round, whatever was known.
 // rule: marks
-fn exchange(alloc: Global, from: &Core, to: &mut Core, peer: &mut Peer) -> Result<Round, Refusal>
+fn exchange(
+    alloc: Global,
+    from: &Core,
+    to: &mut Core,
+    peer: &mut PeerMarks,
+) -> Result<Round, Refusal>
     ensures sent { IfOk result (λ r. r.sent ≡ length (told from.now.store peer.old)) }
     ensures merged { IfOk result
         (λ r. AllMerged to.old (told from.now.store peer.old) r.parts r.grown to.new) }
@@ -108,7 +118,7 @@ fn exchange(alloc: Global, from: &Core, to: &mut Core, peer: &mut Peer) -> Resul
         (λ e. IsStopped to.old (told from.now.store peer.old) e to.new) }
     ensures lost { OnErr result (peer.new ≡ each 0) }
 {
-    let marks = mem::replace(peer, Peer::new()).marks();
+    let marks = mem::replace(peer, PeerMarks::new()).marks();
     let mut outbox = changed_since(alloc, from, marks)?;
     let sent = outbox.len();
     let (parts, grown) = apply_all(to, &mut outbox)?;

@@ -1,15 +1,14 @@
 // What a client asked for of one type, and what became of the responses to it, by the lines of a trace.
-use crate::by_type::ByType;
 use crate::looks::{is_star, nonce_at};
 use std::alloc::Global;
 use xds_catalogue::Catalogue;
-use xds_check::{Answer, Asking, Line};
+use xds_check::{Answer, Asking, ByType, Line};
 use xds_interest::{ClusterText, DeltaNames, Interest, SotwNames};
 use xds_message::{DeltaDiscoveryRequest, DiscoveryRequest};
 use xds_resource::{AnyWrite, NameMap, Refusal, ResourceType, TypeName};
 
 /// What some lines of a trace say of a stream, of the type `T`. Lines go by their places, from 0.
-pub(crate) struct Account<T: ResourceType> {
+pub(crate) struct StreamAccount<T: ResourceType> {
     known: bool,
     begun: bool,
     sotw: SotwNames<T>,
@@ -27,9 +26,9 @@ pub(crate) struct Account<T: ResourceType> {
 }
 
 // Written out: docs/PROVING.md, "Drops".
-impl<T: ResourceType> Drop for Account<T> {
+impl<T: ResourceType> Drop for StreamAccount<T> {
     fn drop(self) {
-        let Account {
+        let StreamAccount {
             known: _,
             begun: _,
             sotw: _,
@@ -48,10 +47,10 @@ fn put<V: Drop>(place: &mut V, value: V) {
     *place = value;
 }
 
-impl<T: ByType> Account<T> {
+impl<T: ByType> StreamAccount<T> {
     // Before the first line.
-    fn new(alloc: Global) -> Account<T> {
-        Account {
+    fn new(alloc: Global) -> StreamAccount<T> {
+        StreamAccount {
             known: false,
             begun: false,
             sotw: SotwNames::new(alloc, ClusterText::none()),
@@ -69,8 +68,8 @@ impl<T: ByType> Account<T> {
         alloc: Global,
         lines: &[Line],
         stream: u64,
-    ) -> Result<Account<T>, Refusal> {
-        let mut account = Account::new(alloc);
+    ) -> Result<StreamAccount<T>, Refusal> {
+        let mut account = StreamAccount::new(alloc);
         for (at, line) in lines.iter().enumerate() {
             account.hear(alloc, lines, stream, at, line)?;
         }
@@ -172,7 +171,7 @@ impl<T: ByType> Account<T> {
         self.begun
             && self.unanswered.is_none()
             && !nonce.is_empty()
-            && !Account::<T>::has_nonce(lines, self.last, nonce)
+            && !StreamAccount::<T>::has_nonce(lines, self.last, nonce)
     }
 
     // rule: accept-reject

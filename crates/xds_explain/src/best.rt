@@ -4,9 +4,8 @@ ghost use Rattle.std.specs.Option.{option_map};
 ghost use Rattle.xds_resource.specs.Best.{if_named};
 ghost use Rattle.xds_explain.specs.BestLines.{write_under, is_surpassed, better, best_line};
 
-use crate::by_type::ByType;
 use std::cmp::Ordering;
-use xds_check::Line;
+use xds_check::{ByType, Line};
 use xds_resource::{ResourceType, Write};
 
 // The write of the type and the name that a line is, if it is one.

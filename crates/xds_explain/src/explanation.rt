@@ -1,12 +1,11 @@
 // The verdict on a trace, in words.
-use crate::account::Account;
-use crate::by_type::ByType;
+use crate::account::StreamAccount;
 use crate::looks::{last_response, stream_of, type_of, used_at};
 use crate::sentences::sentence_of;
 use crate::telling::{MOST_TOLD, best_told, client_told, interest_told, nonce_told, quoted};
 use crate::texts::excerpt;
 use std::alloc::Global;
-use xds_check::{Answer, Broken, Line, Rule, Trace};
+use xds_check::{Answer, Broken, ByType, Line, Rule, Trace};
 use xds_resource::{Cluster, Endpoint, Listener, Refusal, Route, Secret, TypeName};
 
 /// What is broken at a line of a trace, in some lines of text: the line itself, the rule, the stream's client, and what the lines
@@ -95,7 +94,7 @@ fn told_of<T: ByType>(
     line: &Line,
     rule: Rule,
 ) -> Result<String, Refusal> {
-    let account = Account::<T>::of_lines(alloc, before, stream)?;
+    let account = StreamAccount::<T>::of_lines(alloc, before, stream)?;
     let told = account.told(alloc, before, stream, line, rule);
     drop(account);
     let told = told?;
@@ -134,7 +133,7 @@ fn reused_told(
     }
 }
 
-impl<T: ByType> Account<T> {
+impl<T: ByType> StreamAccount<T> {
     // What is told of a rule about a line.
     fn told(
         &self,

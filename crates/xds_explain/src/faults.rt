@@ -1,14 +1,13 @@
 // Which name a response or an answer is at fault with, by rule.
-use crate::account::Account;
-use crate::by_type::ByType;
+use crate::account::StreamAccount;
 use crate::telling::statement_told;
 use std::alloc::Global;
-use xds_check::{Answer, Label, Line, Rule, Statement};
+use xds_check::{Answer, ByType, Label, Line, Rule, Statement};
 use xds_resource::{NameMap, Refusal, Write};
 
 /// The name that a line is at fault with, and what the line says of it.
 #[derive(Drop)]
-pub(crate) struct Fault {
+pub(crate) struct NameFault {
     pub(crate) name: String,
     pub(crate) said: String,
 }
@@ -27,7 +26,7 @@ fn is_labelled<T: ByType>(
     Ok(label.name() == write.name() && label.version() == version.as_str())
 }
 
-impl<T: ByType> Account<T> {
+impl<T: ByType> StreamAccount<T> {
     // rule: best-writes
     // Whether a resource is the one that the best write of its name puts.
     fn is_best(&self, alloc: Global, statement: &Statement) -> Result<bool, Refusal> {
@@ -41,7 +40,7 @@ impl<T: ByType> Account<T> {
     }
 
     // The first resource that isn't.
-    fn not_best(&self, alloc: Global, answer: &Answer) -> Result<Option<Fault>, Refusal> {
+    fn not_best(&self, alloc: Global, answer: &Answer) -> Result<Option<NameFault>, Refusal> {
         for statement in answer.statements() {
             if !self.is_best(alloc, statement)? {
                 return stated(alloc, statement);
@@ -69,7 +68,7 @@ impl<T: ByType> Account<T> {
 
     // rule: covered-only
     // The first resource for which the client doesn't ask.
-    fn not_covered(&self, alloc: Global, answer: &Answer) -> Result<Option<Fault>, Refusal> {
+    fn not_covered(&self, alloc: Global, answer: &Answer) -> Result<Option<NameFault>, Refusal> {
         for statement in answer.statements() {
             if !self.is_covered(statement.name()) {
                 return stated(alloc, statement);
@@ -80,7 +79,7 @@ impl<T: ByType> Account<T> {
 
     // rule: whole-response
     // The first name that is live, that the client asks for, and that isn't stated.
-    fn lacking(&self, alloc: Global, answer: &Answer) -> Result<Option<Fault>, Refusal> {
+    fn lacking(&self, alloc: Global, answer: &Answer) -> Result<Option<NameFault>, Refusal> {
         let stated = stated_names(alloc, answer)?;
         let live = self.catalogue.content(alloc, self.interest())?;
         for write in &live {
@@ -93,7 +92,7 @@ impl<T: ByType> Account<T> {
 
     // rule: no-live-removal
     // The first removed name that is live, and for which the client asks.
-    fn live_removed(&self, alloc: Global, answer: &Answer) -> Result<Option<Fault>, Refusal> {
+    fn live_removed(&self, alloc: Global, answer: &Answer) -> Result<Option<NameFault>, Refusal> {
         for name in answer.removed() {
             if self.is_live(name.as_str()) && self.is_covered(name.as_str()) {
                 return fault_of(alloc, name.as_str(), "stated: removed\n");
@@ -104,7 +103,7 @@ impl<T: ByType> Account<T> {
 
     // rule: awaited-names
     // The first name that waits for an answer that is owed.
-    fn awaited(&self, alloc: Global) -> Result<Option<Fault>, Refusal> {
+    fn awaited(&self, alloc: Global) -> Result<Option<NameFault>, Refusal> {
         for (name, at) in self.waiting.iter() {
             if self.speaks_delta() || self.is_live(name.as_str()) {
                 let number = at.saturating_add(1);
@@ -121,7 +120,7 @@ impl<T: ByType> Account<T> {
         alloc: Global,
         rule: Rule,
         answer: &Answer,
-    ) -> Result<Option<Fault>, Refusal> {
+    ) -> Result<Option<NameFault>, Refusal> {
         match rule {
             Rule::BestResources => self.not_best(alloc, answer),
             Rule::CoveredResources => self.not_covered(alloc, answer),
@@ -140,7 +139,7 @@ impl<T: ByType> Account<T> {
         alloc: Global,
         rule: Rule,
         line: &Line,
-    ) -> Result<Option<Fault>, Refusal> {
+    ) -> Result<Option<NameFault>, Refusal> {
         match line {
             Line::Response(_, answer) => self.at_fault_in(alloc, rule, answer),
             Line::Idle(_, _) => self.awaited(alloc),
@@ -149,15 +148,15 @@ impl<T: ByType> Account<T> {
     }
 }
 
-fn fault_of(alloc: Global, name: &str, said: &str) -> Result<Option<Fault>, Refusal> {
-    Ok(Some(Fault {
+fn fault_of(alloc: Global, name: &str, said: &str) -> Result<Option<NameFault>, Refusal> {
+    Ok(Some(NameFault {
         name: String::from_str(alloc, name)?,
         said: String::from_str(alloc, said)?,
     }))
 }
 
 // A resource of a response that is at fault.
-fn stated(alloc: Global, statement: &Statement) -> Result<Option<Fault>, Refusal> {
+fn stated(alloc: Global, statement: &Statement) -> Result<Option<NameFault>, Refusal> {
     let said = statement_told(alloc, statement)?;
     fault_of(alloc, statement.name(), said.as_str())
 }

@@ -3,7 +3,6 @@
 
 mod account;
 mod best;
-mod by_type;
 pub mod explanation;
 mod faults;
 mod labels;

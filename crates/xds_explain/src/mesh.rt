@@ -7,7 +7,7 @@ use crate::texts::excerpt;
 use std::alloc::Global;
 use xds_resource::{AnyResource, Groups, Refusal, TypeName};
 use xds_world::lines::split_line;
-use xds_world::{Answer, ClientKind, Command, Wish, WorldEvent, read_line};
+use xds_world::{AnswerFate, ClientKind, Command, Wish, WorldEvent, read_line};
 
 // Where the first lane stands, how far lanes are apart, and how much room the last one has for texts.
 const FIRST: u64 = 130;
@@ -383,16 +383,16 @@ impl Mesh {
         client: u32,
         replica: u16,
         kind: TypeName,
-        answer: Answer,
+        answer: AnswerFate,
     ) -> Result<Drawn, Refusal> {
         let verb = match answer {
-            Answer::Arrives => "rest",
-            Answer::Lost => "restlost",
+            AnswerFate::Arrives => "rest",
+            AnswerFate::Lost => "restlost",
         };
         Ok(Drawn {
             from: self.replica_at(replica),
             to: self.client_at(client),
-            class: if answer == Answer::Lost {
+            class: if answer == AnswerFate::Lost {
                 Class::Gone
             } else {
                 Class::Tell

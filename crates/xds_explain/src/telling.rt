@@ -1,10 +1,9 @@
 // What is told of the parts of a trace: its writes, resources, requests and nonces.
 use crate::best::best_line;
-use crate::by_type::ByType;
 use crate::looks::{first_request, nonce_at};
 use crate::texts::excerpt;
 use std::alloc::Global;
-use xds_check::{Asking, Label, Line, Statement};
+use xds_check::{Asking, ByType, Label, Line, Statement};
 use xds_interest::Interest;
 use xds_resource::{Groups, Refusal, ResourceType, Write};
 

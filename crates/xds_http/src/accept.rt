@@ -17,22 +17,22 @@ const MOST_TURNS: u32 = 64;
 
 /// Whether the head of a request has come over a connection.
 #[derive(Drop)]
-pub struct Asked {
+pub struct HeadSeen {
     flag: Arc<AtomicBool>,
 }
 
-impl Asked {
+impl HeadSeen {
     // Nothing has come; and a share of that.
-    fn two(alloc: Global) -> Option<(Asked, Asked)> {
+    fn two(alloc: Global) -> Option<(HeadSeen, HeadSeen)> {
         let one = Arc::new(alloc, AtomicBool::new(false)).ok()?;
         let other = Arc::try_clone(&one).ok()?;
-        Some((Asked { flag: one }, Asked { flag: other }))
+        Some((HeadSeen { flag: one }, HeadSeen { flag: other }))
     }
 
     /// A share of it.
-    pub fn share(&self) -> Option<Asked> {
+    pub fn share(&self) -> Option<HeadSeen> {
         let flag = Arc::try_clone(&self.flag).ok()?;
-        Some(Asked { flag })
+        Some(HeadSeen { flag })
     }
 
     /// A head has come.
@@ -53,7 +53,7 @@ pub trait Serves: Drop {
     type Conn: Future<Output = hyper::Result<()>>;
 
     /// What serves a connection, and notes the heads that come over it; none where there is no memory for it.
-    fn serve(&self, socket: TcpStream, asked: Asked) -> Option<Self::Conn>
+    fn serve(&self, socket: TcpStream, asked: HeadSeen) -> Option<Self::Conn>
         ensures { IfSome result Self.Conn.can_poll };
 
     /// How long to wait after a connection couldn't be accepted; none where that can't be waited for.
@@ -63,14 +63,14 @@ pub trait Serves: Drop {
 /// A connection that is served, and its share of all that there may be. As long as no head of a request has come over it, it may be told
 /// to give way to another.
 #[derive(Drop)]
-pub struct Task<C> {
+pub struct ServedConnection<C> {
     conn: C,
     permit: OwnedSemaphorePermit,
-    asked: Asked,
+    asked: HeadSeen,
     told: Option<Receiver<()>>,
 }
 
-impl<C> Task<C> {
+impl<C> ServedConnection<C> {
     ghost use Rattle.std.specs.Prelude.{◌≡◌};
     ghost use Rattle.futures.specs.Task.{Keeps};
 
@@ -96,7 +96,7 @@ impl<C> Task<C> {
     }
 }
 
-impl<C: Future<Output = hyper::Result<()>>> Future for Task<C> {
+impl<C: Future<Output = hyper::Result<()>>> Future for ServedConnection<C> {
     type Output = ();
 
     ghost can_poll = { λ t. C.can_poll t.conn };
@@ -114,12 +114,12 @@ impl<C: Future<Output = hyper::Result<()>>> Future for Task<C> {
 
 // A connection over which no head had come when it was accepted.
 #[derive(Drop)]
-struct Waiting {
-    asked: Asked,
+struct WaitingConnection {
+    asked: HeadSeen,
     tells: Sender<()>,
 }
 
-impl Waiting {
+impl WaitingConnection {
     // Whether it may still give way.
     fn may_yield(&self) -> bool {
         !self.asked.has_come() && !self.tells.is_closed()
@@ -135,7 +135,7 @@ pub struct Tasks<S> {
     permits: Arc<Semaphore>,
     pause: Option<Sleep>,
     // The oldest first.
-    waiting: VecDeque<Waiting>,
+    waiting: VecDeque<WaitingConnection>,
     // A connection for which another gives way, and how often it was tried since.
     held: Option<TcpStream>,
     turns: u32,
@@ -182,15 +182,15 @@ impl<S: Serves> Tasks<S> {
     }
 
     // What serves a connection, if there may be one more.
-    fn task(&mut self, socket: TcpStream) -> Option<Task<S::Conn>>
+    fn task(&mut self, socket: TcpStream) -> Option<ServedConnection<S::Conn>>
         ensures { IfSome result (λ t. S.Conn.can_poll t.conn) }
     {
         let permits = Arc::try_clone(&self.permits).ok()?;
         let permit = Semaphore::try_acquire_owned(permits).ok()?;
-        let (asked, noted) = Asked::two(self.alloc)?;
+        let (asked, noted) = HeadSeen::two(self.alloc)?;
         let told = self.wait(&asked);
         let conn = self.server.serve(socket, noted)?;
-        Some(Task {
+        Some(ServedConnection {
             conn,
             permit,
             asked,
@@ -199,11 +199,11 @@ impl<S: Serves> Tasks<S> {
     }
 
     // By what a connection is told to give way. Without memory for that it isn't told.
-    fn wait(&mut self, asked: &Asked) -> Option<Receiver<()>> {
+    fn wait(&mut self, asked: &HeadSeen) -> Option<Receiver<()>> {
         self.waiting.retain(|waiting| waiting.may_yield());
         let asked = asked.share()?;
         let (tells, told) = channel(self.alloc).ok()?;
-        match self.waiting.push_back(Waiting { asked, tells }) {
+        match self.waiting.push_back(WaitingConnection { asked, tells }) {
             Ok(()) => Some(told),
             Err(_) => None,
         }
@@ -216,7 +216,7 @@ impl<S: Serves> Tasks<S> {
                 return false;
             };
             if waiting.may_yield() {
-                let Waiting { asked: _, tells } = waiting;
+                let WaitingConnection { asked: _, tells } = waiting;
                 return tells.send(()).is_ok();
             }
         }
@@ -224,7 +224,7 @@ impl<S: Serves> Tasks<S> {
     }
 
     // Takes a connection: what serves it, or none where it is closed, or waits for another that gives way.
-    fn take(&mut self, socket: TcpStream) -> Option<Task<S::Conn>>
+    fn take(&mut self, socket: TcpStream) -> Option<ServedConnection<S::Conn>>
         ensures { IfSome result (λ t. S.Conn.can_poll t.conn) }
     {
         if self.has_room() {
@@ -238,7 +238,7 @@ impl<S: Serves> Tasks<S> {
     }
 
     // Takes the connection that waits for another which gives way.
-    fn take_held(&mut self, socket: TcpStream) -> Option<Task<S::Conn>>
+    fn take_held(&mut self, socket: TcpStream) -> Option<ServedConnection<S::Conn>>
         ensures { IfSome result (λ t. S.Conn.can_poll t.conn) }
     {
         if self.has_room() {
@@ -255,11 +255,11 @@ impl<S: Serves> Tasks<S> {
 impl<S: Serves> Stream for Tasks<S> {
     ghost use Rattle.std.specs.Prelude.{IfSome};
 
-    type Item = Task<S::Conn>;
+    type Item = ServedConnection<S::Conn>;
 
     ghost yields = { λ _ _ last. IfSome last (λ t. S.Conn.can_poll t.conn) };
 
-    fn poll_next(&mut self, cx: &mut Context<'_>) -> Poll<Option<Task<S::Conn>>> {
+    fn poll_next(&mut self, cx: &mut Context<'_>) -> Poll<Option<ServedConnection<S::Conn>>> {
         if let Some(pause) = &mut self.pause {
             let _woken = ready!(pause.poll(cx));
             self.pause = None;

@@ -13,7 +13,7 @@ pub mod site;
 pub mod told;
 
 pub use pages::{Head, Page, Pages, Part};
-pub use polling::{Connects, Posts, poll, poll_by};
+pub use polling::{Connects, PostsRequests, poll, poll_by};
 pub use question::Question;
 pub use replies::{Replies, Seats};
 pub use serve::{MAX_CONNECTIONS, serve_http, serve_on, serve_some};

@@ -155,7 +155,7 @@ where
 }
 
 /// What posts a request to a server and tells the reply. [`Connects`] is one.
-pub trait Posts {
+pub trait PostsRequests {
     ghost use Rattle.std.specs.Prelude.{ℕ, List, Option, Result, IfErr};
     ghost use Rattle.std.specs.declared.net.socket_addr.SocketAddr.{SocketAddr as Server};
     ghost use Rattle.http.specs.declared.request.Request.{Request as Post};
@@ -187,7 +187,7 @@ pub trait Posts {
 #[derive(Clone, Copy, Debug)]
 pub struct Connects;
 
-impl Posts for Connects {
+impl PostsRequests for Connects {
     ghost use Rattle.std.specs.Prelude.{⊤};
 
     // Nothing is claimed of what goes over a socket.
@@ -231,7 +231,7 @@ where
 /// One poll of this server by what posts it, within so many seconds where some are given: the request that is posted is the
 /// question's, and what is told is what that post is answered. Where there is no memory for the request nothing is posted, and
 /// refused is `OutOfMemory`.
-pub fn poll_by<R, P: Posts>(
+pub fn poll_by<R, P: PostsRequests>(
     rt: &R,
     posts: &P,
     server: SocketAddr,

@@ -1,7 +1,7 @@
 // The server of polls over HTTP.
 ghost use Rattle.std.specs.Prelude.{IfSome};
 
-use crate::accept::{Asked, Serves, Tasks};
+use crate::accept::{HeadSeen, Serves, Tasks};
 use crate::replies::Seats;
 use crate::service::Rest;
 use bytes::Bytes;
@@ -53,7 +53,7 @@ where
 {
     type Conn = Connection<TcpStream, Rest<R, A>, Full<Bytes>, TokioTimer<R>>;
 
-    fn serve(&self, socket: TcpStream, asked: Asked) -> Option<Self::Conn> {
+    fn serve(&self, socket: TcpStream, asked: HeadSeen) -> Option<Self::Conn> {
         let shared = Arc::try_clone(&self.shared).ok()?;
         let timers = self.timers.clone().ok()?;
         let rest = Rest::new(self.rt, timers, shared, asked);

@@ -6,7 +6,7 @@ ghost use Rattle.xds_polls.specs.Polls.{addressed};
 ghost use Rattle.xds_http.specs.Carried.{IsAnswer, IsAnswerBy};
 ghost use Rattle.xds_http.specs.Heads.{comes_plain, early_status};
 
-use crate::accept::Asked;
+use crate::accept::HeadSeen;
 use crate::replies::{Replies, Seats};
 use crate::response::{bare, response_of};
 use bytes::Bytes;
@@ -34,7 +34,7 @@ pub struct Rest<R, A> {
     rt: R,
     timers: Handle,
     shared: Arc<A>,
-    asked: Asked,
+    asked: HeadSeen,
 }
 
 // Written out: docs/PROVING.md, "Drops".
@@ -50,7 +50,7 @@ impl<R: Drop, A: Drop> Drop for Rest<R, A> {
 }
 
 impl<R, A> Rest<R, A> {
-    pub fn new(rt: R, timers: Handle, shared: Arc<A>, asked: Asked) -> Rest<R, A>
+    pub fn new(rt: R, timers: Handle, shared: Arc<A>, asked: HeadSeen) -> Rest<R, A>
         ensures { result.shared ≡ shared }
     {
         Rest {
@@ -213,7 +213,7 @@ fn known<I>(request: &Request<Incoming<I>>) -> Option<u16>
 }
 
 /// A body that is to come.
-pub(crate) type Body<I> = Timeout<Collect<Limited<Incoming<I>>>>;
+pub(crate) type ComingBody<I> = Timeout<Collect<Limited<Incoming<I>>>>;
 
 impl<R, A, I> Service<Request<Incoming<I>>> for Rest<R, A>
 where
@@ -230,7 +230,7 @@ where
 
     ghost calls = { λ _ request answering. Begins (head_of request) answering };
 
-    type Future = Answering<R, A, Body<I>>;
+    type Future = Answering<R, A, ComingBody<I>>;
 
     fn call(&self, request: Request<Incoming<I>>) -> Self::Future {
         self.asked.note();

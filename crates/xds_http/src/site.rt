@@ -4,11 +4,11 @@ ghost use Rattle.http.specs.Request.{head_of};
 ghost use Rattle.http_header.specs.HeaderMap.{ContainsKey};
 ghost use Rattle.http_uri.specs.Uri.{uri_path, uri_query};
 
-use crate::accept::{Asked, Serves, Tasks};
+use crate::accept::{HeadSeen, Serves, Tasks};
 use crate::pages::{Head, Page, Pages, Part};
 use crate::response::bare;
 use crate::serve::{MAX_CONNECTIONS, pause_of, permits, run_tasks};
-use crate::service::{BODY_SECONDS, Body, Come};
+use crate::service::{BODY_SECONDS, Come, ComingBody};
 use bytes::Bytes;
 use futures::task::{Context, Poll};
 use futures::{Future, ready};
@@ -39,17 +39,17 @@ use xds_resource::Refusal;
 const LOOK_MILLISECONDS: u64 = 2;
 
 /// The service of a connection.
-pub struct Site<R, A> {
+pub struct ConnectionService<R, A> {
     rt: R,
     timers: Handle,
     shared: Arc<A>,
-    asked: Asked,
+    asked: HeadSeen,
 }
 
 // Written out: docs/PROVING.md, "Drops".
-impl<R: Drop, A: Drop> Drop for Site<R, A> {
+impl<R: Drop, A: Drop> Drop for ConnectionService<R, A> {
     fn drop(self) {
-        let Site {
+        let ConnectionService {
             rt: _,
             timers: _,
             shared: _,
@@ -145,7 +145,7 @@ fn response_of(alloc: Global, page: Page) -> Response<Full<Bytes>> {
 }
 
 // The response to a request, or the end of its connection.
-type Answer = Result<Response<Full<Bytes>>, hyper::Error>;
+type HttpResult = Result<Response<Full<Bytes>>, hyper::Error>;
 
 // The response to a request whose body has come to this, or the work that makes it. One that breaks off has none, which ends the
 // connection.
@@ -154,7 +154,7 @@ fn response_to<R: Wait + Clock + AllocGlobal, A: Pages>(
     pages: &A,
     head: &Head,
     body: Come,
-) -> Result<Answer, A::Work> {
+) -> Result<HttpResult, A::Work> {
     let alloc = rt.alloc();
     match body {
         Ok(Ok(body)) => match body.to_bytes() {
@@ -176,7 +176,7 @@ fn response_or_work<R: Wait + Clock + AllocGlobal, A: Pages + Drop>(
     pages: &Arc<A>,
     head: &Head,
     body: Come,
-) -> Result<Answer, (Arc<A>, A::Work)> {
+) -> Result<HttpResult, (Arc<A>, A::Work)> {
     let work = match response_to(rt, &**pages, head, body) {
         Ok(answer) => return Ok(answer),
         Err(work) => work,
@@ -196,7 +196,7 @@ fn response_by<R: Wait + Clock + AllocGlobal, A: Pages>(
     timers: &Handle,
     pages: &A,
     work: &mut A::Work,
-) -> Result<Answer, Option<Sleep>> {
+) -> Result<HttpResult, Option<Sleep>> {
     let alloc = rt.alloc();
     match pages.go_on(rt, alloc, work) {
         Part::Done(page) => Ok(Ok(response_of(alloc, page))),
@@ -219,7 +219,7 @@ where
     ghost use Rattle.tokio.specs.Timers.{sleep_source};
     ghost use Rattle.xds_http.specs.declared.site.Paging.TheVariants.{Unavailable, Collecting, Working};
 
-    type Output = Answer;
+    type Output = HttpResult;
 
     ghost can_poll = { elim [ Unavailable _ ↦ ⊤ | Collecting _ _ _ _ body ↦ F.can_poll body | Working _ _ _ _ _ ↦ ⊤ ] };
 
@@ -320,7 +320,7 @@ fn head_in<I>(alloc: Global, request: &Request<Incoming<I>>) -> Result<Head, Ref
     })
 }
 
-impl<R, A, I> Service<Request<Incoming<I>>> for Site<R, A>
+impl<R, A, I> Service<Request<Incoming<I>>> for ConnectionService<R, A>
 where
     R: Wait + Clock + AllocGlobal + Copy + Drop,
     A: Pages + Drop,
@@ -330,7 +330,7 @@ where
 
     type Error = hyper::Error;
 
-    type Future = Paging<R, A, Body<I>>;
+    type Future = Paging<R, A, ComingBody<I>>;
 
     fn call(&self, request: Request<Incoming<I>>) -> Self::Future {
         self.asked.note();
@@ -384,12 +384,12 @@ where
     R: Wait + Clock + AllocGlobal + Copy + Drop,
     A: Pages + Drop,
 {
-    type Conn = Connection<TcpStream, Site<R, A>, Full<Bytes>, TokioTimer<R>>;
+    type Conn = Connection<TcpStream, ConnectionService<R, A>, Full<Bytes>, TokioTimer<R>>;
 
-    fn serve(&self, socket: TcpStream, asked: Asked) -> Option<Self::Conn> {
+    fn serve(&self, socket: TcpStream, asked: HeadSeen) -> Option<Self::Conn> {
         let shared = Arc::try_clone(&self.shared).ok()?;
         let timers = self.timers.clone().ok()?;
-        let site = Site {
+        let site = ConnectionService {
             rt: self.rt,
             timers,
             shared,

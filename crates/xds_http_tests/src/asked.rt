@@ -2,14 +2,14 @@
 use std::alloc::Global;
 use std::sync::Wait;
 use xds_http::{Replies, Seats};
-use xds_node::{Node, NodeName, Seat};
+use xds_node::{NodeName, Seat, SharedNode};
 use xds_polls::HttpReply;
 use xds_resource::Refusal;
 use xds_rest::reply_at;
 
 /// A node that posts ask, each by a seat of its own.
 pub(crate) struct Asked<N: NodeName> {
-    pub(crate) node: Node<N>,
+    pub(crate) node: SharedNode<N>,
 }
 
 impl<N: NodeName> Drop for Asked<N> {

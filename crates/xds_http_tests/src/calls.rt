@@ -7,7 +7,7 @@ use std::marker::Brand;
 use std::sync::Wait;
 use std::test::Fail;
 use xds_cases::cases::{unfolded, written_out};
-use xds_node::{Line, Node, NodeName, Opened, Seat};
+use xds_node::{JournalLine, NodeName, Opened, Seat, SharedNode};
 use xds_polls::HttpReply;
 use xds_resource::Refusal;
 use xds_rest::{answer_at, reply_at};
@@ -24,7 +24,7 @@ pub(crate) fn shown(alloc: Global, reply: HttpReply) -> Result<String, Refusal> 
 pub(crate) fn by_seat<N: NodeName, R: Wait>(
     rt: &R,
     alloc: Global,
-    node: &Node<N>,
+    node: &SharedNode<N>,
     seat: &mut Seat<N>,
     request: &str,
 ) -> Result<String, Fail> {
@@ -37,7 +37,7 @@ pub(crate) fn by_seat<N: NodeName, R: Wait>(
 fn by_cutting<N: NodeName, R: Wait>(
     rt: &R,
     alloc: Global,
-    node: &Node<N>,
+    node: &SharedNode<N>,
     seat: &mut Seat<N>,
     request: &str,
 ) -> Result<String, Fail> {
@@ -50,7 +50,7 @@ fn by_cutting<N: NodeName, R: Wait>(
 pub(crate) fn by_node<N: NodeName, R: Wait>(
     rt: &R,
     alloc: Global,
-    node: &Node<N>,
+    node: &SharedNode<N>,
     request: &str,
 ) -> Result<String, Fail> {
     let mut seat = node.seat(rt)?;
@@ -74,7 +74,7 @@ fn is_told(found: Result<String, Fail>, wanted: &str, given: &str) -> Result<(),
 fn answers<N: NodeName, R: Wait>(
     rt: &R,
     alloc: Global,
-    node: &Node<N>,
+    node: &SharedNode<N>,
     seat: &mut Seat<N>,
     case: &str,
 ) -> Result<(), Fail> {
@@ -88,7 +88,7 @@ fn answers<N: NodeName, R: Wait>(
 fn hold<N: NodeName, R: Wait>(
     rt: &R,
     alloc: Global,
-    node: &Node<N>,
+    node: &SharedNode<N>,
     seat: &mut Seat<N>,
 ) -> Result<(), Fail> {
     let cases = unfolded(alloc, CASES)?;
@@ -99,13 +99,20 @@ fn hold<N: NodeName, R: Wait>(
 }
 
 /// How many records stand at a node, which is cut.
-pub(crate) fn standing<N: NodeName, R: Wait>(rt: &R, node: &Node<N>) -> Result<usize, Refusal> {
+pub(crate) fn standing<N: NodeName, R: Wait>(
+    rt: &R,
+    node: &SharedNode<N>,
+) -> Result<usize, Refusal> {
     let segment = node.cut(rt)?;
     Ok(segment.records().len())
 }
 
 // The records after the cases: those that ask the node leave one each, by the seat and without one.
-fn recorded_at<N: NodeName, R: Wait>(rt: &R, alloc: Global, node: &Node<N>) -> Result<usize, Fail> {
+fn recorded_at<N: NodeName, R: Wait>(
+    rt: &R,
+    alloc: Global,
+    node: &SharedNode<N>,
+) -> Result<usize, Fail> {
     let mut seat = node.seat(rt)?;
     let held = hold(rt, alloc, node, &mut seat);
     drop(seat);
@@ -116,7 +123,7 @@ fn recorded_at<N: NodeName, R: Wait>(rt: &R, alloc: Global, node: &Node<N>) -> R
 fn recorded<N: NodeName, R: Wait>(
     rt: &R,
     alloc: Global,
-    opened: Opened<Line>,
+    opened: Opened<JournalLine>,
 ) -> Result<usize, Fail>
     requires name { opened ≡ N.id }
     requires own { 1 ≡ N.replica }
@@ -129,7 +136,7 @@ fn recorded<N: NodeName, R: Wait>(
 
 #[test]
 fn a_poll_is_one_record(rt: HostRuntime) -> Result<(), Fail> {
-    let opened = Opened::<Line>::new(rt.alloc())?;
+    let opened = Opened::<JournalLine>::new(rt.alloc())?;
     let records = recorded::<Brand, _>(&rt, rt.alloc(), opened)?;
     assert!(rt; records == 5, "a put, and two polls, each asked twice");
     Ok(())

@@ -8,7 +8,7 @@ use std::marker::Brand;
 use std::sync::Wait;
 use std::test::Fail;
 use xds_core::Event;
-use xds_node::{Line, MOST_RECORDS, Node, NodeName, Opened, Seat};
+use xds_node::{JournalLine, MOST_RECORDS, NodeName, Opened, Seat, SharedNode};
 use xds_resource::Refusal;
 use xds_rest::answer_at;
 
@@ -18,7 +18,11 @@ fn is_lost<T: Drop, E: Drop>(answer: Result<T, E>) -> bool {
 }
 
 // Makes as many records as a journal holds.
-fn fill<N: NodeName, R: Wait>(rt: &R, node: &Node<N>, seat: &mut Seat<N>) -> Result<(), Refusal> {
+fn fill<N: NodeName, R: Wait>(
+    rt: &R,
+    node: &SharedNode<N>,
+    seat: &mut Seat<N>,
+) -> Result<(), Refusal> {
     for _ in 0..MOST_RECORDS {
         if is_lost(node.call(rt, seat, Event::Close(9))) {
             return Err(Refusal::BadTrace);
@@ -31,7 +35,7 @@ fn fill<N: NodeName, R: Wait>(rt: &R, node: &Node<N>, seat: &mut Seat<N>) -> Res
 fn refused_by<N: NodeName, R: Wait>(
     rt: &R,
     alloc: Global,
-    node: &Node<N>,
+    node: &SharedNode<N>,
     seat: &mut Seat<N>,
 ) -> Result<Option<Refusal>, Refusal> {
     fill(rt, node, seat)?;
@@ -42,7 +46,7 @@ fn refused_by<N: NodeName, R: Wait>(
 fn refused<N: NodeName, R: Wait>(
     rt: &R,
     alloc: Global,
-    node: &Node<N>,
+    node: &SharedNode<N>,
 ) -> Result<Option<Refusal>, Refusal> {
     let mut seat = node.seat(rt)?;
     let refused = refused_by(rt, alloc, node, &mut seat);
@@ -55,7 +59,7 @@ fn refused<N: NodeName, R: Wait>(
 fn cut_for_a_request<N: NodeName, R: Wait>(
     rt: &R,
     alloc: Global,
-    node: &Node<N>,
+    node: &SharedNode<N>,
 ) -> Result<usize, Fail> {
     if refused(rt, alloc, node)? != Some(Refusal::JournalFull) {
         return Err(Fail::from("a call found room"));
@@ -68,11 +72,15 @@ fn cut_for_a_request<N: NodeName, R: Wait>(
     Ok(standing(rt, node)?)
 }
 
-fn full<N: NodeName, R: Wait>(rt: &R, alloc: Global, opened: Opened<Line>) -> Result<usize, Fail>
+fn full<N: NodeName, R: Wait>(
+    rt: &R,
+    alloc: Global,
+    opened: Opened<JournalLine>,
+) -> Result<usize, Fail>
     requires name { opened ≡ N.id }
     requires own { 1 ≡ N.replica }
 {
-    let node = Node::<N>::new(alloc, opened, 1)?;
+    let node = SharedNode::<N>::new(alloc, opened, 1)?;
     let records = cut_for_a_request(rt, alloc, &node);
     drop(node);
     records
@@ -81,7 +89,7 @@ fn full<N: NodeName, R: Wait>(rt: &R, alloc: Global, opened: Opened<Line>) -> Re
 // rule: cuts
 #[test]
 fn a_full_journal_is_cut_for_a_request(rt: HostRuntime) -> Result<(), Fail> {
-    let opened = Opened::<Line>::new(rt.alloc())?;
+    let opened = Opened::<JournalLine>::new(rt.alloc())?;
     let records = full::<Brand, _>(&rt, rt.alloc(), opened)?;
     assert!(rt; records == 1, "the poll is the first record after the cut");
     Ok(())

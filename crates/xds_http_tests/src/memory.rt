@@ -9,7 +9,7 @@ use std::alloc::Global;
 use std::marker::Brand;
 use std::sync::Wait;
 use std::test::Fail;
-use xds_node::{Line, Node, NodeName, Opened, Seat};
+use xds_node::{JournalLine, NodeName, Opened, Seat, SharedNode};
 use xds_polls::HttpReply;
 use xds_resource::Refusal;
 use xds_rest::{answer_at, reply_at};
@@ -29,7 +29,7 @@ fn tells_none(alloc: Global, reply: HttpReply) -> Result<(), Fail> {
 fn twice<N: NodeName, R: Wait>(
     rt: &R,
     alloc: Global,
-    node: &Node<N>,
+    node: &SharedNode<N>,
     seat: &mut Seat<N>,
 ) -> Result<bool, Fail> {
     let first = answer_at(rt, alloc, node, seat, "POST", PATH, b"{}");
@@ -42,7 +42,11 @@ fn twice<N: NodeName, R: Wait>(
     Ok(refused)
 }
 
-fn by_seat<N: NodeName, R: Wait>(rt: &R, alloc: Global, node: &Node<N>) -> Result<bool, Fail> {
+fn by_seat<N: NodeName, R: Wait>(
+    rt: &R,
+    alloc: Global,
+    node: &SharedNode<N>,
+) -> Result<bool, Fail> {
     let mut seat = node.seat(rt)?;
     let refused = twice(rt, alloc, node, &mut seat);
     drop(seat);
@@ -53,7 +57,7 @@ fn by_seat<N: NodeName, R: Wait>(rt: &R, alloc: Global, node: &Node<N>) -> Resul
 fn cutting_twice<N: NodeName, R: Wait>(
     rt: &R,
     alloc: Global,
-    node: &Node<N>,
+    node: &SharedNode<N>,
     seat: &mut Seat<N>,
 ) -> Result<bool, Fail> {
     let first = reply_at(rt, alloc, node, seat, "POST", PATH, b"{}");
@@ -63,14 +67,18 @@ fn cutting_twice<N: NodeName, R: Wait>(
     Ok(unavailable)
 }
 
-fn by_node<N: NodeName, R: Wait>(rt: &R, alloc: Global, node: &Node<N>) -> Result<bool, Fail> {
+fn by_node<N: NodeName, R: Wait>(
+    rt: &R,
+    alloc: Global,
+    node: &SharedNode<N>,
+) -> Result<bool, Fail> {
     let mut seat = node.seat(rt)?;
     let unavailable = cutting_twice(rt, alloc, node, &mut seat);
     drop(seat);
     unavailable
 }
 
-fn either<N: NodeName, R: Wait>(rt: &R, alloc: Global, node: &Node<N>) -> Result<bool, Fail> {
+fn either<N: NodeName, R: Wait>(rt: &R, alloc: Global, node: &SharedNode<N>) -> Result<bool, Fail> {
     let refused = by_seat(rt, alloc, node)?;
     Ok(by_node(rt, alloc, node)? || refused)
 }
@@ -78,12 +86,12 @@ fn either<N: NodeName, R: Wait>(rt: &R, alloc: Global, node: &Node<N>) -> Result
 fn comes_again<N: NodeName, R: Wait>(
     rt: &R,
     alloc: Global,
-    opened: Opened<Line>,
+    opened: Opened<JournalLine>,
 ) -> Result<bool, Fail>
     requires name { opened ≡ N.id }
     requires own { 1 ≡ N.replica }
 {
-    let node = Node::<N>::new(alloc, opened, 1)?;
+    let node = SharedNode::<N>::new(alloc, opened, 1)?;
     let refused = either(rt, alloc, &node);
     drop(node);
     refused
@@ -91,7 +99,7 @@ fn comes_again<N: NodeName, R: Wait>(
 
 #[test]
 fn a_poll_without_memory(rt: HostRuntime) -> Result<(), Fail> {
-    let opened = Opened::<Line>::new(rt.alloc())?;
+    let opened = Opened::<JournalLine>::new(rt.alloc())?;
     if comes_again::<Brand, _>(&rt, rt.alloc(), opened)? {
         println!(rt; "refused, and went on")?;
     }

@@ -14,7 +14,7 @@ use std::thread::Threads;
 use std::time::Clock;
 use xds_core::{Event, Reply};
 use xds_http::{MAX_CONNECTIONS, Seats, serve_some};
-use xds_node::{Line, Node, NodeName, Opened, Seat, Unrecorded};
+use xds_node::{JournalLine, NodeName, Opened, Seat, SharedNode, Unrecorded};
 use xds_resource::{AnyResource, Groups, Refusal, TypeName};
 
 // What is looked for in what a call of a node answers. It is told by reference, and dropped by a
@@ -40,7 +40,7 @@ fn written_by<T: Answered>(answer: T) -> Result<(), Refusal> {
 pub(crate) fn put<N: NodeName, R: Wait>(
     rt: &R,
     alloc: Global,
-    node: &Node<N>,
+    node: &SharedNode<N>,
     seat: &mut Seat<N>,
     name: &str,
 ) -> Result<(), Refusal> {
@@ -59,7 +59,7 @@ pub(crate) fn kept<V: Drop, E>(value: V, done: Result<(), E>) -> Result<V, E> {
 }
 
 // Puts the cluster `a` by a seat that lives no longer.
-fn put_a<N: NodeName, R: Wait>(rt: &R, alloc: Global, node: &Node<N>) -> Result<(), Refusal> {
+fn put_a<N: NodeName, R: Wait>(rt: &R, alloc: Global, node: &SharedNode<N>) -> Result<(), Refusal> {
     let mut seat = node.seat(rt)?;
     let done = put(rt, alloc, node, &mut seat, "a");
     drop(seat);
@@ -70,12 +70,12 @@ fn put_a<N: NodeName, R: Wait>(rt: &R, alloc: Global, node: &Node<N>) -> Result<
 pub(crate) fn node_with_a<N: NodeName, R: Wait>(
     rt: &R,
     alloc: Global,
-    opened: Opened<Line>,
-) -> Result<Node<N>, Refusal>
+    opened: Opened<JournalLine>,
+) -> Result<SharedNode<N>, Refusal>
     requires name { opened ≡ N.id }
     requires own { 1 ≡ N.replica }
 {
-    let node = Node::<N>::new(alloc, opened, 1)?;
+    let node = SharedNode::<N>::new(alloc, opened, 1)?;
     let done = put_a(rt, alloc, &node);
     kept(node, done)
 }
@@ -113,7 +113,7 @@ where
 
 // Serves such a node in a thread of its own, at a port that the system picks, until the process
 // ends.
-fn begin<N, R>(rt: &R, opened: Opened<Line>, connections: usize) -> Result<SocketAddr, Fail>
+fn begin<N, R>(rt: &R, opened: Opened<JournalLine>, connections: usize) -> Result<SocketAddr, Fail>
 where
     N: NodeName + Send + Sync + 'static,
     R: Wait
@@ -171,7 +171,7 @@ where
         + Net<Listener = TcpListener, Stream = TcpStream>
         + 'static,
 {
-    let opened = Opened::<Line>::new(rt.alloc())?;
+    let opened = Opened::<JournalLine>::new(rt.alloc())?;
     begin::<Brand, R>(rt, opened, connections)
 }
 

@@ -4,7 +4,7 @@
 --     process_text   when a process began, and the numbers of what it takes behind it
 --     build_text     which program it is
 use Rattle.std.specs.Prelude.{ℕ, List, [], ◌++◌, Option, Some, None, codes, decimal}
-use Rattle.xds_stats.specs.declared.metrics.Kind.TheVariants.{Gauge}
+use Rattle.xds_stats.specs.declared.metrics.MetricKind.TheVariants.{Gauge}
 use Rattle.xds_stats.specs.Metrics.{help_line, sample_line, seconds_text}
 use Rattle.xds_machine.specs.declared.meter.Usage.{Usage}
 

@@ -8,7 +8,7 @@ use std::io::{Read, Seek, SeekFrom};
 use std::rt::Files;
 use std::str;
 use xds_resource::Refusal;
-use xds_stats::{Kind, Metrics, seconds_text};
+use xds_stats::{MetricKind, Metrics, seconds_text};
 
 // Where Linux tells what this process takes.
 const STATUS: &str = "/proc/self/stat";
@@ -132,7 +132,11 @@ pub fn build_text(alloc: Global, version: &str) -> Result<String, Refusal>
     ensures { IfOk result (λ t. string_bytes t ≡ build_text version.now) }
 {
     let mut metrics = Metrics::new(alloc);
-    metrics.about("xds_build_info", "The program's version.", Kind::Gauge)?;
+    metrics.about(
+        "xds_build_info",
+        "The program's version.",
+        MetricKind::Gauge,
+    )?;
     let labels = format!(in alloc; "version=\"{version}\"")?;
     metrics.add("xds_build_info", labels.as_str(), 1)?;
     Ok(metrics.finish())

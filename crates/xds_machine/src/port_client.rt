@@ -6,14 +6,14 @@ use std::net::{Net, SocketAddr, SocketAddrV4, TcpStream};
 use std::time::{Clock, Duration};
 use std::{io, str};
 use xds_frames::{Counted, write_whole};
-use xds_port::{Answer, answer_in, head_text};
+use xds_port::{PortAnswer, answer_in, head_text};
 
 // As many bytes as are read at a time.
 const BLOCK: usize = 16_384;
 
 /// A request.
 #[derive(Clone, Copy)]
-pub struct Request<'a> {
+pub struct PortRequest<'a> {
     pub method: &'static str,
     pub target: &'a str,
     /// What it says of a token, if it says something.
@@ -25,10 +25,10 @@ pub struct Request<'a> {
     pub most: usize,
 }
 
-impl<'a> Request<'a> {
+impl<'a> PortRequest<'a> {
     /// The same, which says this of a token.
-    pub fn with_bearer(self, bearer: Option<&'a str>) -> Request<'a> {
-        Request {
+    pub fn with_bearer(self, bearer: Option<&'a str>) -> PortRequest<'a> {
+        PortRequest {
             method: self.method,
             target: self.target,
             bearer,
@@ -72,7 +72,7 @@ pub fn answered<N>(
     net: &N,
     alloc: Global,
     addr: SocketAddrV4,
-    request: &Request<'_>,
+    request: &PortRequest<'_>,
 ) -> Result<Vec<u8>, Unanswered>
 where
     N: Net<Stream = TcpStream> + Clock,
@@ -154,7 +154,7 @@ fn read_some<C: Clock>(
 }
 
 /// The answer that has come, if it is one, and whole.
-pub fn whole_answer(bytes: &[u8]) -> Result<Answer<'_>, Unanswered> {
+pub fn whole_answer(bytes: &[u8]) -> Result<PortAnswer<'_>, Unanswered> {
     let Ok(text) = str::from_utf8(bytes) else {
         return Err(Unanswered::Broken);
     };

@@ -4,7 +4,7 @@ use Rattle.std.specs.Bool.{◌==◌}
 use Rattle.std.proofs.lemmas.Bool.{false≢true}
 use Rattle.std.proofs.lemmas.List.{drop-append-le, take-append-drop}
 use Rattle.std.proofs.Math.Seq.{drop-append-add}
-use Rattle.xds_message.specs.declared.filling.Place.{Place}
+use Rattle.xds_message.specs.declared.filling.TextPlace.{TextPlace}
 use Rattle.xds_message.specs.Joined.{behind_commas}
 use Rattle.xds_message.specs.Pieces.{comma_before}
 use Rattle.xds_message.specs.Unsent.{FitsNext, IsFrontOf, IsPlaceIn, left_at, texts_behind}
@@ -53,7 +53,7 @@ behind_next false text texts = refl
 behind_next true text texts = refl
 
 module _ {A : Type 0} (text : A → List ℕ) (items : List A) (later : Bool) (next offset : ℕ) where
-  abbrev here : Place
+  abbrev here : TextPlace
   here = record { later = later; next = next; offset = offset }
 
   -- what is left is the rest of the next text, and those behind it
@@ -65,7 +65,7 @@ module _ {A : Type 0} (text : A → List ℕ) (items : List A) (later : Bool) (n
       ∙ drop-append-le offset (comma_before later ++ text item) (behind_commas (map text (drop (next + 1) items))) fits
 
 module _ {A : Type 0} (text : A → List ℕ) (items : List A) (later : Bool) (next offset n : ℕ) (item : A) where
-  abbrev at : ℕ → Place
+  abbrev at : ℕ → TextPlace
   at k = record { later = later; next = next; offset = k }
 
   pub goes_on : drop next items ≡ item ∷ drop (next + 1) items → IsPlaceIn text items (at offset) → n ≤ length (comma_before later ++ text item) → IsPlaceIn text items (at n)

@@ -8,7 +8,7 @@
 --     IsHeld         a block lacks nothing that could stand in it
 use Rattle.std.specs.Prelude.{◌≡◌, ◌≤◌, ℕ, List, [], ◌∷◌, ◌++◌, Bool, true, false, map, length, take, drop, Option, Some, None}
 use Rattle.xds_frames.specs.Frames.{longest}
-use Rattle.xds_message.specs.declared.filling.Place.{Place}
+use Rattle.xds_message.specs.declared.filling.TextPlace.{TextPlace}
 use Rattle.xds_message.specs.Joined.{behind_commas, with_commas}
 use Rattle.xds_message.specs.Pieces.{comma_before}
 
@@ -18,7 +18,7 @@ texts_behind false texts = with_commas texts
 texts_behind true texts = behind_commas texts
 
 -- what is left of stored texts behind a place in them
-abbrev pub left_at : {A : Type 0} → (A → List ℕ) → List A → Place → List ℕ
+abbrev pub left_at : {A : Type 0} → (A → List ℕ) → List A → TextPlace → List ℕ
 left_at text items at = drop at.offset (texts_behind at.later (map text (drop at.next items)))
 
 -- no more was passed than the next text and the comma before it
@@ -27,7 +27,7 @@ FitsNext later [] offset = offset ≡ 0
 FitsNext later (text ∷ texts) offset = offset ≤ length (comma_before later ++ text)
 
 -- a place in stored texts that a frame has room for
-pub record IsPlaceIn {A : Type 0} (text : A → List ℕ) (items : List A) (at : Place) : Type 0 where
+pub record IsPlaceIn {A : Type 0} (text : A → List ℕ) (items : List A) (at : TextPlace) : Type 0 where
   pub fits : FitsNext at.later (map text (drop at.next items)) at.offset
   pub bounded : length (texts_behind at.later (map text (drop at.next items))) ≤ longest
 

@@ -13,7 +13,7 @@ use std::sync::{ArcSlice, ArcStr};
 
 /// A place in stored texts with commas between them: as many texts were passed, and as many bytes of the next with its comma.
 #[derive(Clone, Copy)]
-pub(crate) struct Place {
+pub(crate) struct TextPlace {
     // Whether a comma stands before the next.
     pub(crate) later: bool,
     pub(crate) next: usize,
@@ -24,7 +24,7 @@ pub(crate) struct Place {
 #[derive(Drop)]
 pub(crate) struct Texts<S: Stored> {
     items: Option<ArcSlice<S, Global>>,
-    at: Place,
+    at: TextPlace,
 }
 
 impl<S: Stored> Model for Texts<S> {
@@ -49,7 +49,7 @@ impl<S: Stored> Texts<S> {
     {
         Texts {
             items: None,
-            at: Place {
+            at: TextPlace {
                 later: false,
                 next: 0,
                 offset: 0,
@@ -64,7 +64,7 @@ impl<S: Stored> Texts<S> {
     {
         Texts {
             items: Some(items),
-            at: Place {
+            at: TextPlace {
                 later: false,
                 next: 0,
                 offset: 0,
@@ -86,7 +86,7 @@ impl<S: Stored> Texts<S> {
 }
 
 // Moves as much of stored texts as there is room for behind what a block holds, from a place on. Answers the place up to which it did.
-fn fill_from<S: Stored>(block: &mut Vec<u8>, items: &[S], from: Place) -> Place
+fn fill_from<S: Stored>(block: &mut Vec<u8>, items: &[S], from: TextPlace) -> TextPlace
     requires { IsPlaceIn S.text items.now from }
     ensures moved { block.new.items ++ left_at S.text items.now result ≡ block.old.items ++ left_at S.text items.now from }
     ensures place { IsPlaceIn S.text items.now result }
@@ -99,12 +99,12 @@ fn fill_from<S: Stored>(block: &mut Vec<u8>, items: &[S], from: Place) -> Place
             return at;
         }
         at = match put_some(block, &items[at.next], at.later, at.offset) {
-            Some(offset) => Place {
+            Some(offset) => TextPlace {
                 later: at.later,
                 next: at.next,
                 offset,
             },
-            None => Place {
+            None => TextPlace {
                 later: true,
                 next: at.next + 1,
                 offset: 0,
@@ -189,13 +189,13 @@ fn put_front(block: &mut Vec<u8>, bytes: &[u8]) -> usize
 
 /// A text, as far as it wasn't passed. Contracts see what is left.
 #[derive(Drop)]
-pub(crate) struct Said {
+pub(crate) struct LeftText {
     text: Option<ArcStr<Global>>,
     // How many bytes of it are left.
     left: usize,
 }
 
-impl Model for Said {
+impl Model for LeftText {
     ghost use Rattle.std.specs.Prelude.{ℕ, List, ◌≤◌, ◌-◌, length, drop};
     ghost use Rattle.std.specs.Arc.{arc_str_bytes};
     ghost use Rattle.xds_message.specs.Unsent.{all_of};
@@ -207,23 +207,23 @@ impl Model for Said {
     ghost invariant = { λ s. s.left ≤ length (all_of arc_str_bytes s.text) };
 }
 
-impl Said {
+impl LeftText {
     /// Nothing.
-    pub(crate) fn none() -> Said
+    pub(crate) fn none() -> LeftText
         ensures { result ≡ [] }
     {
-        Said {
+        LeftText {
             text: None,
             left: 0,
         }
     }
 
     /// This text, of which nothing was passed.
-    pub(crate) fn of(text: ArcStr<Global>) -> Said
+    pub(crate) fn of(text: ArcStr<Global>) -> LeftText
         ensures { result ≡ arc_str_bytes text }
     {
         let left = text.len();
-        Said {
+        LeftText {
             text: Some(text),
             left,
         }

@@ -9,7 +9,7 @@ ghost use Rattle.xds_message.specs.Unsent.{IsFrontOf, IsHeld};
 
 use crate::body::Body;
 use crate::delta_draft::DraftResource;
-use crate::filling::{Said, Texts};
+use crate::filling::{LeftText, Texts};
 use crate::pieces::Stored;
 use crate::stated::{Bodies, Resources, Stated};
 use std::alloc::Global;
@@ -25,10 +25,10 @@ pub struct Unsent {
     // How many bytes of the block were written.
     at: usize,
     // One of these three at most has something.
-    joined: Said,
+    joined: LeftText,
     resources: Texts<DraftResource>,
     bodies: Texts<Body>,
-    tail: Said,
+    tail: LeftText,
 }
 
 // Written out: docs/PROVING.md, "Drops".
@@ -64,10 +64,10 @@ impl Unsent {
         Unsent {
             block: Vec::new(alloc),
             at: 0,
-            joined: Said::none(),
+            joined: LeftText::none(),
             resources: Texts::none(),
             bodies: Texts::none(),
-            tail: Said::none(),
+            tail: LeftText::none(),
         }
     }
 
@@ -165,22 +165,22 @@ impl Unsent {
 }
 
 // Stored texts: how they read together, where that was made, and else each.
-fn said_or_stored<S: Stored>(stated: &Stated<S>) -> Result<(Said, Texts<S>), Refusal>
+fn said_or_stored<S: Stored>(stated: &Stated<S>) -> Result<(LeftText, Texts<S>), Refusal>
     requires { length (with_commas (map S.text stated.now)) ≤ longest }
     ensures ok { IfOk result (λ r. r.0 ++ r.1 ≡ with_commas (map S.text stated.now)) }
     ensures refused { IfErr result (λ e. e ≡ OutOfMemory) }
 {
     if let Some(text) = stated.shared_text()? {
-        return Ok((Said::of(text), Texts::none()));
+        return Ok((LeftText::of(text), Texts::none()));
     }
-    Ok((Said::none(), Texts::of(stated.shared_list()?)))
+    Ok((LeftText::none(), Texts::of(stated.shared_list()?)))
 }
 
 // A frame of which a block holds the beginning, and these texts stand behind it.
 fn begun(
     block: Vec<u8>,
     head: String,
-    joined: Said,
+    joined: LeftText,
     resources: Texts<DraftResource>,
     bodies: Texts<Body>,
     tail: String,
@@ -194,7 +194,7 @@ fn begun(
     let mut bodies = bodies;
     block.extend_from_slice(head.as_bytes())?;
     block.reserve(1)?;
-    let mut tail = Said::of(ArcStr::from_string(tail)?);
+    let mut tail = LeftText::of(ArcStr::from_string(tail)?);
     fill_first(
         &mut block,
         &mut joined,
@@ -215,10 +215,10 @@ fn begun(
 // Moves as much as there is room for behind what a block holds, for the first time: a joined text as a whole or not at all.
 fn fill_first(
     block: &mut Vec<u8>,
-    joined: &mut Said,
+    joined: &mut LeftText,
     resources: &mut Texts<DraftResource>,
     bodies: &mut Texts<Body>,
-    tail: &mut Said,
+    tail: &mut LeftText,
 )
     requires { length block.old.items < vec_capacity block.old }
     ensures moved { block.new.items ++ (joined.new ++ (resources.new ++ (bodies.new ++ tail.new)))
@@ -239,10 +239,10 @@ fn fill_first(
 fn filled(
     block: &mut Vec<u8>,
     at: usize,
-    joined: &Said,
+    joined: &LeftText,
     resources: &mut Texts<DraftResource>,
     bodies: &mut Texts<Body>,
-    tail: &mut Said,
+    tail: &mut LeftText,
 ) -> usize
     requires within { at ≤ length block.old.items }
     requires room { vec_capacity block.old ≡ 0 → resources.old ++ (bodies.old ++ tail.old) ≡ [] }
@@ -266,7 +266,7 @@ fn fill(
     block: &mut Vec<u8>,
     resources: &mut Texts<DraftResource>,
     bodies: &mut Texts<Body>,
-    tail: &mut Said,
+    tail: &mut LeftText,
 )
     ensures moved { block.new.items ++ (resources.new ++ (bodies.new ++ tail.new)) ≡ block.old.items ++ (resources.old ++ (bodies.old ++ tail.old)) }
     ensures grown { vec_capacity block.old ≤ vec_capacity block.new }

@@ -13,7 +13,7 @@ use Rattle.std.specs.Prelude.{ℕ, Bool, if◌then◌else◌, ◌+◌, ◌-◌, 
 use Rattle.std.specs.List.{flat_map}
 use Rattle.xds_resource.specs.declared.refusal.Refusal.{Refusal}
 use Rattle.xds_resource.specs.Refusals.{number_of, name_of}
-use Rattle.xds_stats.specs.declared.metrics.Kind.TheVariants.{Counter, Gauge}
+use Rattle.xds_stats.specs.declared.metrics.MetricKind.TheVariants.{Counter, Gauge}
 use Rattle.xds_stats.specs.Metrics.{help_line, sample_line}
 use Rattle.xds_monitor.specs.declared.tapes.TapeFault.{TapeFault}
 use Rattle.xds_monitor.specs.declared.tapes.TapeFault.TheVariants.{NoFolder, NotAllowed, IsThere, Other}

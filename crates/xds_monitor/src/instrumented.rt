@@ -12,7 +12,7 @@ use std::sync::Wait;
 use std::time::Clock;
 use xds_core::{Event, Marks, Reply};
 use xds_http::{Replies, Seats};
-use xds_node::{Due, Host, Unrecorded};
+use xds_node::{Host, Unrecorded, WaitEnd};
 use xds_polls::HttpReply;
 use xds_resource::Refusal;
 use xds_rest::{Posts, reply_at};
@@ -138,11 +138,11 @@ impl<A: Served + Host<Segment: Piece>, C: Clock> Host for Instrumented<A, C> {
         cut
     }
 
-    fn wait_due<R: Wait>(&self, rt: &R, stream: u64) -> Due {
+    fn wait_due<R: Wait>(&self, rt: &R, stream: u64) -> WaitEnd {
         self.node.wait_due(rt, stream)
     }
 
-    fn poll_due<R: Wait>(&self, rt: &R, cx: &mut Context<'_>, stream: u64) -> Poll<Due> {
+    fn poll_due<R: Wait>(&self, rt: &R, cx: &mut Context<'_>, stream: u64) -> Poll<WaitEnd> {
         self.node.poll_due(rt, cx, stream)
     }
 

@@ -11,7 +11,7 @@ use xds_notes::note::Note;
 use xds_resource::{Refusal, Stamp};
 use xds_stats::board::Board;
 use xds_stats::html::rows_html;
-use xds_stats::log_event::{FirstRequest, LogEvent, Maker, Place, Rejection};
+use xds_stats::log_event::{FirstRequest, LogEvent, Maker, Rejection, StreamPlace};
 use xds_stats::moment::Moment;
 use xds_stats::numbers::Numbers;
 use xds_stats::plain_status::plain_text;
@@ -118,8 +118,8 @@ impl Lookout {
         self.board.lock(rt).doors.leave();
     }
 
-    fn place(&self, stream: u64) -> Place {
-        Place {
+    fn place(&self, stream: u64) -> StreamPlace {
+        StreamPlace {
             replica: self.replica,
             stream,
         }
@@ -286,16 +286,16 @@ impl Lookout {
     }
 }
 
-fn unknown(alloc: Global, place: Place, heard: &Heard) -> Result<LogEvent, Refusal> {
+fn unknown(alloc: Global, place: StreamPlace, heard: &Heard) -> Result<LogEvent, Refusal> {
     let type_url = String::from_str(alloc, heard.type_url.as_str())?;
     Ok(LogEvent::UnknownType(place, type_url))
 }
 
-fn connected(alloc: Global, place: Place, peer: &str) -> Result<LogEvent, Refusal> {
+fn connected(alloc: Global, place: StreamPlace, peer: &str) -> Result<LogEvent, Refusal> {
     Ok(LogEvent::Connected(place, String::from_str(alloc, peer)?))
 }
 
-fn first_request(alloc: Global, place: Place, heard: &Heard) -> Result<LogEvent, Refusal> {
+fn first_request(alloc: Global, place: StreamPlace, heard: &Heard) -> Result<LogEvent, Refusal> {
     let (node, cluster) = match &heard.node {
         Some((node, cluster)) => (node.as_str(), cluster.as_str()),
         None => ("", ""),
@@ -309,7 +309,7 @@ fn first_request(alloc: Global, place: Place, heard: &Heard) -> Result<LogEvent,
     Ok(LogEvent::FirstRequest(place, first))
 }
 
-fn rejected(alloc: Global, place: Place, heard: &Heard) -> Result<LogEvent, Refusal> {
+fn rejected(alloc: Global, place: StreamPlace, heard: &Heard) -> Result<LogEvent, Refusal> {
     let message = match &heard.rejection {
         Some(message) => message.as_str(),
         None => "",

@@ -17,7 +17,7 @@ pub type Tape = Recorder<Reel<File>>;
 
 // How a recording ended before the server did, if it did, and whether it is finished.
 #[derive(Clone, Copy)]
-struct Outcome {
+struct RecordingEnd {
     ended: Option<Refusal>,
     is_finished: bool,
 }
@@ -29,7 +29,7 @@ pub struct Recorder<W> {
     alloc: Global,
     replica: u16,
     recording: Mutex<Recording<W>>,
-    outcome: Mutex<Outcome>,
+    outcome: Mutex<RecordingEnd>,
     // It is finished.
     finished: Condvar,
 }
@@ -54,7 +54,7 @@ impl<W: Write> Recorder<W> {
             alloc,
             replica,
             recording: Mutex::new(Recording::new(writer)),
-            outcome: Mutex::new(Outcome {
+            outcome: Mutex::new(RecordingEnd {
                 ended: None,
                 is_finished: false,
             }),

@@ -1,10 +1,10 @@
 // A node, as the server knows it.
 use std::sync::Wait;
-use xds_node::{Host, Node, NodeName, Seat};
+use xds_node::{Host, NodeName, Seat, SharedNode};
 use xds_resource::Refusal;
 use xds_rest::Posts;
 
-/// A replica that a server runs: its worker threads call it by seats, and posts ask it. [`Node`] is one.
+/// A replica that a server runs: its worker threads call it by seats, and posts ask it. [`SharedNode`] is one.
 pub trait Served: Host + Posts {
     ghost use Rattle.std.specs.Prelude.{◌≡◌, [], IfOk, IfErr};
 
@@ -20,16 +20,16 @@ pub trait Served: Host + Posts {
     fn release<R: Wait>(&self, rt: &R);
 }
 
-impl<N: NodeName> Served for Node<N> {
+impl<N: NodeName> Served for SharedNode<N> {
     fn seat<R: Wait>(&self, rt: &R) -> Result<Seat<N>, Refusal> {
-        Node::seat(self, rt)
+        SharedNode::seat(self, rt)
     }
 
     fn hold<R: Wait>(&self, rt: &R) {
-        Node::hold(self, rt)
+        SharedNode::hold(self, rt)
     }
 
     fn release<R: Wait>(&self, rt: &R) {
-        Node::release(self, rt)
+        SharedNode::release(self, rt)
     }
 }

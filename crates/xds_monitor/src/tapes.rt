@@ -12,7 +12,7 @@ use std::rt::Files;
 use std::sync::Arc;
 use std::{fs, io};
 use xds_resource::Refusal;
-use xds_stats::metrics::{Kind, Metrics};
+use xds_stats::metrics::{MetricKind, Metrics};
 
 /// The mode of files that hold what is put, private keys among it: who runs the server may read and write them, and nobody else.
 pub const PRIVATE: u32 = 0o600;
@@ -105,7 +105,11 @@ pub fn recordings_text(alloc: Global, ended: &[(u16, bool)]) -> Result<String, R
     ensures { IfOk result (λ t. string_bytes t ≡ recordings_text ended.now) }
 {
     let mut metrics = Metrics::new(alloc);
-    metrics.about(ENDED, "Recordings that ended by a refusal.", Kind::Counter)?;
+    metrics.about(
+        ENDED,
+        "Recordings that ended by a refusal.",
+        MetricKind::Counter,
+    )?;
     for shown in ended {
         add_recording(alloc, &mut metrics, shown.0, shown.1)?;
     }
@@ -136,7 +140,7 @@ pub fn running_text(alloc: Global, running: &[(u16, bool)]) -> Result<String, Re
     metrics.about(
         RUNNING,
         "Whether the trace of the replica is being recorded.",
-        Kind::Gauge,
+        MetricKind::Gauge,
     )?;
     for shown in running {
         add_running(alloc, &mut metrics, shown.0, shown.1)?;

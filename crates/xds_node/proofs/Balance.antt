@@ -6,7 +6,7 @@ use mathlib.Core.Option.{none, some}
 use lib.ListN.{get_elem?}
 use Rattle.atomic_table.specs.Table.{Me, step, keeps, Allows, Splits, Joins}
 use Rattle.atomic_table.proofs.Lists.{at_set, at_snoc, set_else}
-use Rattle.xds_node.specs.declared.holding.Holding.{Holding}
+use Rattle.xds_node.specs.declared.node.holding.TokenHolding.{TokenHolding}
 use Rattle.xds_node.specs.Entries.{weigh}
 use Rattle.xds_node.specs.Holdings.{recorded, nothing, kept_part, lent_part, both, with_entry, with_refused, with_seat, after_cut}
 use Rattle.xds_node.specs.Tally.{IsIdle, Balanced, Known, Rule, Appends, Notes, Sits, Cuts, Looks}
@@ -15,7 +15,7 @@ use Rattle.xds_node.proofs.Covering.{Turns, covers_set, covers_fork, covers_merg
 use Rattle.xds_node.proofs.Pasts.{Begins, begins_longer, begins_still, pasts_set, pasts_fork, pasts_merge, begins_own}
 
 -- the balance of one holding is the same as another's
-record Even {E : Type 0} (v w : Holding E) : Type 0 where
+record Even {E : Type 0} (v w : TokenHolding E) : Type 0 where
   one : w.keepers ≡ v.keepers
   seats : w.seats + v.made ≡ v.seats + w.made
   told : Turns recorded (λ u. u.told) v w
@@ -25,23 +25,23 @@ record Even {E : Type 0} (v w : Holding E) : Type 0 where
 
 module _ {E : Type 0} where
   -- what is given, and what is known of it, stays as it is
-  unturned : (known given : Holding E → List (ℕ × E)) (v w : Holding E) → known w ≡ known v → given w ≡ given v → Turns known given v w
+  unturned : (known given : TokenHolding E → List (ℕ × E)) (v w : TokenHolding E) → known w ≡ known v → given w ≡ given v → Turns known given v w
   unturned known given v w same_known same_given = record {
     same = λ h. let k = ap (weigh h) same_known in let g = ap (weigh h) same_given in omega arith;
     grows = λ e p. subst (λ (l : List (ℕ × E)). Contains l e) (sym same_known) p;
     each = λ e p. inl (subst (λ (l : List (ℕ × E)). Contains l e) same_given p);
   }
 
-  idle_set : (views : List (Holding E)) (i : ℕ) (w : Holding E) → IsIdle w → ((j : ℕ) (u : Holding E) → get_elem? views j ≡ some u → IsIdle u) → (j : ℕ) (u : Holding E) → get_elem? (set views i w) j ≡ some u → IsIdle u
+  idle_set : (views : List (TokenHolding E)) (i : ℕ) (w : TokenHolding E) → IsIdle w → ((j : ℕ) (u : TokenHolding E) → get_elem? views j ≡ some u → IsIdle u) → (j : ℕ) (u : TokenHolding E) → get_elem? (set views i w) j ≡ some u → IsIdle u
   idle_set views i w mine others j u at =
       ⊎_elim
-      (λ (here : (j ≡ i) × (w ≡ u)). subst (λ (x : Holding E). IsIdle x) here.1 mine)
+      (λ (here : (j ≡ i) × (w ≡ u)). subst (λ (x : TokenHolding E). IsIdle x) here.1 mine)
       (λ (there : (j ≢ i) × (get_elem? views j ≡ some u)). others j u there.1)
       (at_set views i j w u at)
 
   -- rule: one-seat
   -- one holding changes, and its own balance stays
-  moved : (views : List (Holding E)) (i : ℕ) (v w : Holding E) → Balanced views → get_elem? views i ≡ some v → Even v w → Balanced (set views i w)
+  moved : (views : List (TokenHolding E)) (i : ℕ) (v w : TokenHolding E) → Balanced views → get_elem? views i ≡ some v → Even v w → Balanced (set views i w)
   moved views i v w b at even = record {
     one = let s = weigh_set (λ u. u.keepers) views i v w at in let was = b.one in let same = even.one in omega arith;
     seats =
@@ -56,7 +56,7 @@ module _ {E : Type 0} where
     idle = idle_set views i w even.idle b.idle;
   }
 
-  forks : (views : List (Holding E)) (i : ℕ) (v : Holding E) → Balanced views → get_elem? views i ≡ some v → Balanced (set views i (kept_part v) ++ lent_part v ∷ [])
+  forks : (views : List (TokenHolding E)) (i : ℕ) (v : TokenHolding E) → Balanced views → get_elem? views i ≡ some v → Balanced (set views i (kept_part v) ++ lent_part v ∷ [])
   forks views i v b at =
       let w = kept_part v in
       let x = lent_part v in
@@ -64,14 +64,14 @@ module _ {E : Type 0} where
       record {
         one =
             let s = weigh_set (λ u. u.keepers) views i v w at in
-            let t = weigh_more (λ (u : Holding E). u.keepers) (set views i w) x in
+            let t = weigh_more (λ (u : TokenHolding E). u.keepers) (set views i w) x in
             let was = b.one in
             omega arith;
         seats =
             let s = weigh_set (λ u. u.seats) views i v w at in
-            let s' = weigh_more (λ (u : Holding E). u.seats) (set views i w) x in
+            let s' = weigh_more (λ (u : TokenHolding E). u.seats) (set views i w) x in
             let t = weigh_set (λ u. u.made) views i v w at in
-            let t' = weigh_more (λ (u : Holding E). u.made) (set views i w) x in
+            let t' = weigh_more (λ (u : TokenHolding E). u.made) (set views i w) x in
             let was = b.seats in
             omega arith;
         told = covers_fork recorded (λ u. u.told) views i v w x b.told at refl refl refl refl;
@@ -80,11 +80,11 @@ module _ {E : Type 0} where
         idle = λ j u there.
             ⊎_elim
             (λ (old : get_elem? (set views i w) j ≡ some u). idle_set views i w (record { apart = mine.apart; silent = λ _. refl }) b.idle j u old)
-            (λ (new : x ≡ u). subst (λ (y : Holding E). IsIdle y) new (record { apart = λ _. (refl, refl, refl); silent = mine.silent }))
+            (λ (new : x ≡ u). subst (λ (y : TokenHolding E). IsIdle y) new (record { apart = λ _. (refl, refl, refl); silent = mine.silent }))
             (at_snoc (set views i w) x u j there);
       }
 
-  merges : (views : List (Holding E)) (i : ℕ) (v : Holding E) (other : ℕ) (w : Holding E) → Balanced views → get_elem? views i ≡ some v → ¬ (other ≡ i) → get_elem? (set views i (both v w)) other ≡ some w → w.keepers ≡ 0 → Balanced (set (set views i (both v w)) other nothing)
+  merges : (views : List (TokenHolding E)) (i : ℕ) (v : TokenHolding E) (other : ℕ) (w : TokenHolding E) → Balanced views → get_elem? views i ≡ some v → ¬ (other ≡ i) → get_elem? (set views i (both v w)) other ≡ some w → w.keepers ≡ 0 → Balanced (set (set views i (both v w)) other nothing)
   merges views i v other w b at apart there lent =
       let x = both v w in
       let first = set views i x in
@@ -122,7 +122,7 @@ module _ {E : Type 0} where
   no_length (x ∷ xs) h void = absurd (omega arith)
 
   -- what the keeper knows
-  learns : (views : List (Holding E)) (i : ℕ) (v : Holding E) → Balanced views → get_elem? views i ≡ some v → v.keepers ≡ 1 → Known v
+  learns : (views : List (TokenHolding E)) (i : ℕ) (v : TokenHolding E) → Balanced views → get_elem? views i ≡ some v → v.keepers ≡ 1 → Known v
   learns views i v b at keeper =
       let alone : weigh (λ u. u.keepers) views ≡ v.keepers = b.one ∙ sym keeper in
       record {
@@ -145,15 +145,15 @@ module _ {E : Type 0} where
   -- what the calls of the table ask, whatever becomes of its word (f), which the rule does not look at
 
   -- rule: one-seat
-  pub lends : (id : ℕ) (v : Holding E) → Splits Rule id v (kept_part v) (lent_part v)
+  pub lends : (id : ℕ) (v : TokenHolding E) → Splits Rule id v (kept_part v) (lent_part v)
   lends id v s b at = forks s.views id v b at
 
   -- rule: one-seat
-  pub gives : (id : ℕ) (v : Holding E) (other : ℕ) (w : Holding E) → w.keepers ≡ 0 → Joins Rule id v other w (both v w) nothing
+  pub gives : (id : ℕ) (v : TokenHolding E) (other : ℕ) (w : TokenHolding E) → w.keepers ≡ 0 → Joins Rule id v other w (both v w) nothing
   gives id v other w lent s b at apart there = merges s.views id v other w b at apart there lent
 
   -- rule: one-seat
-  pub appends : (slots id : ℕ) (m : Me E (Holding E)) (f : ℕ → ℕ) (n : ℕ) (e : E) → m.0.keepers ≡ 1 → 0 < m.0.seats → Allows Rule slots id m 0 f (Appends (step slots 0 n n (some e)) m)
+  pub appends : (slots id : ℕ) (m : Me E (TokenHolding E)) (f : ℕ → ℕ) (n : ℕ) (e : E) → m.0.keepers ≡ 1 → 0 < m.0.seats → Allows Rule slots id m 0 f (Appends (step slots 0 n n (some e)) m)
   appends slots id m f n e keeper seated s b wide at small =
       let v = m.0 in
       let longer : recorded (with_entry n e v) ≡ recorded v ++ (n, e) ∷ [] = sym (append_assoc v.cut v.journal ((n, e) ∷ [])) in
@@ -175,7 +175,7 @@ module _ {E : Type 0} where
       (with_entry n e v, keeps, tt, moved s.views id v (with_entry n e v) b at even, refl)
 
   -- a note changes nothing that the rule looks at
-  pub notes : (slots id : ℕ) (m : Me E (Holding E)) (f : ℕ → ℕ) (e : E) → Allows Rule slots id m 0 f (Notes (step slots 0 0 0 (some e)) m)
+  pub notes : (slots id : ℕ) (m : Me E (TokenHolding E)) (f : ℕ → ℕ) (e : E) → Allows Rule slots id m 0 f (Notes (step slots 0 0 0 (some e)) m)
   notes slots id m f e s b wide at small =
       let v = m.0 in
       let w = with_refused e v in
@@ -191,7 +191,7 @@ module _ {E : Type 0} where
       (w, keeps, tt, moved s.views id v w b at even, refl)
 
   -- rule: one-seat
-  pub sits : (slots id : ℕ) (m : Me E (Holding E)) (f : ℕ → ℕ) → m.0.keepers ≡ 1 → Allows Rule slots id m 0 f (Sits (step slots 0 0 0 none) m)
+  pub sits : (slots id : ℕ) (m : Me E (TokenHolding E)) (f : ℕ → ℕ) → m.0.keepers ≡ 1 → Allows Rule slots id m 0 f (Sits (step slots 0 0 0 none) m)
   sits slots id m f keeper s b wide at small =
       let v = m.0 in
       let even : Even v (with_seat v) = record {
@@ -205,7 +205,7 @@ module _ {E : Type 0} where
       (with_seat v, keeps, tt, moved s.views id v (with_seat v) b at even, refl)
 
   -- rule: cuts
-  pub cuts : (slots id : ℕ) (m : Me E (Holding E)) (f : ℕ → ℕ) → m.0.keepers ≡ 1 → Allows Rule slots id m 0 f (Cuts (step slots 0 0 0 none) m)
+  pub cuts : (slots id : ℕ) (m : Me E (TokenHolding E)) (f : ℕ → ℕ) → m.0.keepers ≡ 1 → Allows Rule slots id m 0 f (Cuts (step slots 0 0 0 none) m)
   cuts slots id m f keeper s b wide at small =
       let v = m.0 in
       let mine = b.idle id v at in
@@ -226,7 +226,7 @@ module _ {E : Type 0} where
       } in
       (after_cut v, keeps, tt, moved s.views id v (after_cut v) b at even, refl)
 
-  pub looks : (slots id : ℕ) (m : Me E (Holding E)) (f : ℕ → ℕ) → m.0.keepers ≡ 1 → Allows Rule slots id m 0 f (Looks (step slots 0 0 0 none) m)
+  pub looks : (slots id : ℕ) (m : Me E (TokenHolding E)) (f : ℕ → ℕ) → m.0.keepers ≡ 1 → Allows Rule slots id m 0 f (Looks (step slots 0 0 0 none) m)
   looks slots id m f keeper s b wide at small =
       let v = m.0 in
       let even : Even v v = record { one = refl; seats = refl; told = unturned recorded (λ u. u.told) v v refl refl; share = unturned (λ u. u.cut) (λ u. u.share) v v refl refl; pasts = begins_still v v refl refl; idle = b.idle id v at } in

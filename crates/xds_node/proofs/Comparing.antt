@@ -7,10 +7,10 @@ use Rattle.xds_exchange.specs.Ends.{AreEnds, Begins, IsOf, IsSameEnd, IsSameSour
 use Rattle.xds_exchange.specs.declared.ends.Incoming.{Incoming}
 use Rattle.xds_exchange.specs.declared.ends.Outgoing.{Outgoing}
 use Rattle.xds_exchange.specs.declared.ends.Taken.{Taken}
-use Rattle.xds_node.specs.declared.exchange.Ended.{Ended}
-use Rattle.xds_node.specs.declared.parcels.Receipt.{Receipt}
+use Rattle.xds_node.specs.declared.replication.exchange.Ended.{Ended}
+use Rattle.xds_node.specs.declared.replication.parcels.Receipt.{Receipt}
 use Rattle.xds_node.specs.Exchanging.{HasMerged}
-use Rattle.xds_node.specs.Whole.{Exchange, IsExchange, MergesAll, TellsAll}
+use Rattle.xds_node.specs.TwoNodes.{Exchange, IsExchange, MergesAll, TellsAll}
 
 -- an end that left after more was taken from it is of the same channel
 pub left_same : {T : Type 0} (i j : Incoming T) (t : Taken T) → IsSameSource i j → ((o : Outgoing T) → AreEnds o j → IsOf o t) → (o : Outgoing T) → AreEnds o i → IsOf o t

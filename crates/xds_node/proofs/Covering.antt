@@ -7,7 +7,7 @@ use mathlib.Core.Logic.{dite}
 use native.Mathlib.Decide.{ℕ_discrete}
 use lib.ListN.{get_elem?}
 use Rattle.atomic_table.proofs.Lists.{at_set, at_snoc, at_longer, set_else}
-use Rattle.xds_node.specs.declared.holding.Holding.{Holding}
+use Rattle.xds_node.specs.declared.node.holding.TokenHolding.{TokenHolding}
 use Rattle.xds_node.specs.Entries.{weigh}
 use Rattle.xds_node.specs.Tally.{StandsIn, Covers, IsPartOf}
 use Rattle.xds_node.proofs.Weights.{weigh_append, weigh_more, weigh_set, weigh_at, only}
@@ -59,19 +59,19 @@ sole_has {X} P g xs i v at alone idle s =
     (λ (lone : g s.1 ≡ 0). idle s.0 s.1 s.2 lone s.3)
     (λ (weighty : g s.1 ≢ 0). subst P (same_there xs i s.0 v s.1 at s.2 (sole g xs i s.0 v s.1 at s.2 alone (omega arith))) s.3)
 
-module _ {E : Type 0} (known given : Holding E → List (ℕ × E)) where
+module _ {E : Type 0} (known given : TokenHolding E → List (ℕ × E)) where
   -- after a change of one holding
-  stands_set : (views : List (Holding E)) (i : ℕ) (v w : Holding E) → get_elem? views i ≡ some v → ((e : ℕ × E) → Contains (known v) e → Contains (known w) e) → (e : ℕ × E) → StandsIn known views e → StandsIn known (set views i w) e
+  stands_set : (views : List (TokenHolding E)) (i : ℕ) (v w : TokenHolding E) → get_elem? views i ≡ some v → ((e : ℕ × E) → Contains (known v) e → Contains (known w) e) → (e : ℕ × E) → StandsIn known views e → StandsIn known (set views i w) e
   stands_set views i v w at grows e s = some_set (λ u. Contains (known u) e) views i v w at (grows e) s
 
   -- what is given of a holding that changes, and what it knows of it
-  pub record Turns (v w : Holding E) : Type 0 where
+  pub record Turns (v w : TokenHolding E) : Type 0 where
     pub same : (h : ℕ × E → ℕ) → weigh h (given w) + weigh h (known v) ≡ weigh h (given v) + weigh h (known w)
     pub grows : (e : ℕ × E) → Contains (known v) e → Contains (known w) e
     pub each : (e : ℕ × E) → Contains (given w) e → Contains (given v) e ⊎ Contains (known w) e
 
   -- rule: one-seat
-  pub covers_set : (views : List (Holding E)) (i : ℕ) (v w : Holding E) → Covers known given views → get_elem? views i ≡ some v → Turns v w → Covers known given (set views i w)
+  pub covers_set : (views : List (TokenHolding E)) (i : ℕ) (v w : TokenHolding E) → Covers known given views → get_elem? views i ≡ some v → Turns v w → Covers known given (set views i w)
   covers_set views i v w c at turns = record {
     same = λ h.
         let s = weigh_set (λ u. weigh h (given u)) views i v w at in
@@ -81,7 +81,7 @@ module _ {E : Type 0} (known given : Holding E → List (ℕ × E)) where
         omega arith;
     stands = λ j u there.
         ⊎_elim
-        (λ (here : (j ≡ i) × (w ≡ u)). subst (λ (x : Holding E). All (StandsIn known (set views i w)) (given x)) here.1 mine)
+        (λ (here : (j ≡ i) × (w ≡ u)). subst (λ (x : TokenHolding E). All (StandsIn known (set views i w)) (given x)) here.1 mine)
         (λ (else : (j ≢ i) × (get_elem? views j ≡ some u)). All-weaker (StandsIn known views) (StandsIn known (set views i w)) (stands_set views i v w at turns.grows) (given u) (c.stands j u else.1))
         (at_set views i j w u there);
   }
@@ -93,22 +93,22 @@ module _ {E : Type 0} (known given : Holding E → List (ℕ × E)) where
           (λ (new : Contains (known w) e). (i, w, set_there views i v w at, new))
           (turns.each e in_it))
 
-  stands_fork : (views : List (Holding E)) (i : ℕ) (v w x : Holding E) → get_elem? views i ≡ some v → known w ≡ known v → (e : ℕ × E) → StandsIn known views e → StandsIn known (set views i w ++ x ∷ []) e
+  stands_fork : (views : List (TokenHolding E)) (i : ℕ) (v w x : TokenHolding E) → get_elem? views i ≡ some v → known w ≡ known v → (e : ℕ × E) → StandsIn known views e → StandsIn known (set views i w ++ x ∷ []) e
   stands_fork views i v w x at same_known e s =
       let t = stands_set views i v w at (λ f (p : Contains (known v) f). subst (λ (l : List (ℕ × E)). Contains l f) (sym same_known) p) e s in
       (t.0, t.1, at_longer (set views i w) (x ∷ []) t.0 t.1 t.2, t.3)
 
   -- rule: one-seat
   -- a holding is cut in two, of which the first knows what it knew, and the second has what it was given
-  pub covers_fork : (views : List (Holding E)) (i : ℕ) (v w x : Holding E) → Covers known given views → get_elem? views i ≡ some v → given w ≡ [] → known w ≡ known v → given x ≡ given v → known x ≡ [] → Covers known given (set views i w ++ x ∷ [])
+  pub covers_fork : (views : List (TokenHolding E)) (i : ℕ) (v w x : TokenHolding E) → Covers known given views → get_elem? views i ≡ some v → given w ≡ [] → known w ≡ known v → given x ≡ given v → known x ≡ [] → Covers known given (set views i w ++ x ∷ [])
   covers_fork views i v w x c at no_given same_known same_given no_known =
       let still = stands_fork views i v w x at same_known in
       record {
         same = λ h.
             let s = weigh_set (λ u. weigh h (given u)) views i v w at in
-            let s' = weigh_more (λ (u : Holding E). weigh h (given u)) (set views i w) x in
+            let s' = weigh_more (λ (u : TokenHolding E). weigh h (given u)) (set views i w) x in
             let t = weigh_set (λ u. weigh h (known u)) views i v w at in
-            let t' = weigh_more (λ (u : Holding E). weigh h (known u)) (set views i w) x in
+            let t' = weigh_more (λ (u : TokenHolding E). weigh h (known u)) (set views i w) x in
             let was = c.same h in
             let a : weigh h (given w) ≡ 0 = ap (weigh h) no_given in
             let b : weigh h (known w) ≡ weigh h (known v) = ap (weigh h) same_known in
@@ -130,7 +130,7 @@ module _ {E : Type 0} (known given : Holding E → List (ℕ × E)) where
 
   -- rule: one-seat
   -- one holding is added to another, and is then nothing
-  pub covers_merge : (views : List (Holding E)) (i other : ℕ) (v w x n : Holding E) → Covers known given views → get_elem? views i ≡ some v → get_elem? views other ≡ some w → ¬ (other ≡ i) → given x ≡ given v ++ given w → known x ≡ known v → known w ≡ [] → given n ≡ [] → known n ≡ [] → Covers known given (set (set views i x) other n)
+  pub covers_merge : (views : List (TokenHolding E)) (i other : ℕ) (v w x n : TokenHolding E) → Covers known given views → get_elem? views i ≡ some v → get_elem? views other ≡ some w → ¬ (other ≡ i) → given x ≡ given v ++ given w → known x ≡ known v → known w ≡ [] → given n ≡ [] → known n ≡ [] → Covers known given (set (set views i x) other n)
   covers_merge views i other v w x n c at there apart sum_given same_known w_none n_given n_none =
       let there' : get_elem? (set views i x) other ≡ some w = set_else views i other x apart ∙ there in
       let first = covers_add views i v x w c at (λ e. All-contains (StandsIn known views) (given w) e (c.stands other w there)) sum_given same_known in
@@ -155,7 +155,7 @@ module _ {E : Type 0} (known given : Holding E → List (ℕ × E)) where
             (at_set (set views i x) other j n u at_j);
       }
     where
-      covers_add : (views : List (Holding E)) (i : ℕ) (v x w : Holding E) → Covers known given views → get_elem? views i ≡ some v → ((e : ℕ × E) → Contains (given w) e → StandsIn known views e) → given x ≡ given v ++ given w → known x ≡ known v → (j : ℕ) (u : Holding E) → get_elem? (set views i x) j ≡ some u → All (StandsIn known (set views i x)) (given u)
+      covers_add : (views : List (TokenHolding E)) (i : ℕ) (v x w : TokenHolding E) → Covers known given views → get_elem? views i ≡ some v → ((e : ℕ × E) → Contains (given w) e → StandsIn known views e) → given x ≡ given v ++ given w → known x ≡ known v → (j : ℕ) (u : TokenHolding E) → get_elem? (set views i x) j ≡ some u → All (StandsIn known (set views i x)) (given u)
       covers_add views i v x w c at others sum_given same_known j u at_j =
           let still = stands_set views i v x at (λ f (p : Contains (known v) f). subst (λ (l : List (ℕ × E)). Contains l f) (sym same_known) p) in
           ⊎_elim
@@ -169,7 +169,7 @@ module _ {E : Type 0} (known given : Holding E → List (ℕ × E)) where
 
   -- rule: one-seat
   -- where only one token knows anything of the list, what was given to it is part of that, and all of it where no other was given any
-  pub part_of : (views : List (Holding E)) (i : ℕ) (v : Holding E) (g : Holding E → ℕ) (all : Type 0) → Covers known given views → get_elem? views i ≡ some v → weigh g views ≡ g v → ((j : ℕ) (u : Holding E) → get_elem? views j ≡ some u → g u ≡ 0 → known u ≡ []) → (all → (h : ℕ × E → ℕ) → weigh (λ u. weigh h (given u)) views ≡ weigh h (given v)) → IsPartOf (given v) (known v) all
+  pub part_of : (views : List (TokenHolding E)) (i : ℕ) (v : TokenHolding E) (g : TokenHolding E → ℕ) (all : Type 0) → Covers known given views → get_elem? views i ≡ some v → weigh g views ≡ g v → ((j : ℕ) (u : TokenHolding E) → get_elem? views j ≡ some u → g u ≡ 0 → known u ≡ []) → (all → (h : ℕ × E → ℕ) → weigh (λ u. weigh h (given u)) views ≡ weigh h (given v)) → IsPartOf (given v) (known v) all
   part_of views i v g all c at alone idle others = record {
     most = λ h.
         let one = only (λ u. weigh h (known u)) g views i v at alone (λ j u there lone. ap (weigh h) (idle j u there lone)) in

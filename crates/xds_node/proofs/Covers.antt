@@ -12,9 +12,9 @@ use Rattle.xds_resource.specs.PerType.{PerType, at, each}
 use Rattle.xds_node.specs.Concerns.{set_of, joined, meets, covers, IsInBoth, may_meet}
 use Rattle.xds_node.specs.Gathered.{has}
 use Rattle.xds_node.specs.Prints.{print}
-use Rattle.xds_node.specs.declared.concern.Concern.{Concern}
-use Rattle.xds_node.specs.declared.concerns.TypeSet.{TypeSet}
-use Rattle.xds_node.specs.declared.gathered.Gathered.{Gathered}
+use Rattle.xds_node.specs.declared.node.concern.Concern.{Concern}
+use Rattle.xds_node.specs.declared.node.concerns.TypeSet.{TypeSet}
+use Rattle.xds_node.specs.declared.node.gathered.Gathered.{Gathered}
 use Rattle.xds_node.proofs.Fingerprints.{contains-of_list, contains-both, shares_it, of_list}
 
 -- ---- sets of types

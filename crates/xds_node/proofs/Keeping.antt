@@ -8,7 +8,7 @@ use Rattle.xds_core.specs.Events.{Event, Reply}
 use Rattle.xds_core.specs.Steps.{Core, fresh, step}
 use Rattle.xds_core.specs.Legal.{Record, answer_of, after, replayed, IsLegal}
 use Rattle.xds_core.proofs.StepLaws.{number_stays}
-use Rattle.xds_node.specs.declared.holding.Holding.{Holding}
+use Rattle.xds_node.specs.declared.node.holding.TokenHolding.{TokenHolding}
 use Rattle.xds_node.specs.Entries.{numbered, records_of, Counted}
 use Rattle.xds_node.specs.Holdings.{keeper, share_holding, recorded, past_of, IsKeeperOf}
 use Rattle.xds_node.proofs.Numbers.{records_append, records_numbered, numbered_append, numbered_records}
@@ -35,17 +35,17 @@ replica_stays c (r ∷ rs) = replica_stays (after c r.event) rs ∙ number_stays
 -- ---- the books
 
 -- the base is what the books say
-pub kept_base : (replica : ℕ) (base core : Core) (journal : List Record) (cut seats : ℕ) (v : Holding Record) → IsKept replica base core journal cut seats v → base_of (record { replica = base.replica; before = v.cut; journal = journal; seats = seats }) ≡ base
+pub kept_base : (replica : ℕ) (base core : Core) (journal : List Record) (cut seats : ℕ) (v : TokenHolding Record) → IsKept replica base core journal cut seats v → base_of (record { replica = base.replica; before = v.cut; journal = journal; seats = seats }) ≡ base
 kept_base replica base core journal cut seats v k = sym k.origin
 
 -- and so is the core
-pub kept_present : (replica : ℕ) (base core : Core) (journal : List Record) (cut seats : ℕ) (v : Holding Record) → IsKept replica base core journal cut seats v → present (record { replica = base.replica; before = v.cut; journal = journal; seats = seats }) ≡ core
+pub kept_present : (replica : ℕ) (base core : Core) (journal : List Record) (cut seats : ℕ) (v : TokenHolding Record) → IsKept replica base core journal cut seats v → present (record { replica = base.replica; before = v.cut; journal = journal; seats = seats }) ≡ core
 kept_present replica base core journal cut seats v k = ap (λ c. replayed c journal) (sym k.origin) ∙ sym k.state
 
 -- one record more
-pub kept_one : (replica : ℕ) (base core core' : Core) (journal journal' : List Record) (cut seats n : ℕ) (e : Event) (r : Record) (v w : Holding Record) → IsKept replica base core journal cut seats v → length journal ≢ most_records → cut + length journal ≢ max_counter → n ≡ cut + length journal + 1 → r ≡ record { event = e; answer = answer_of (step core e) } → core' ≡ after core e → journal' ≡ journal ++ r ∷ [] → w ≡ keeper v.made v.cut (v.journal ++ (n, r) ∷ []) → IsKept replica base core' journal' cut seats w
+pub kept_one : (replica : ℕ) (base core core' : Core) (journal journal' : List Record) (cut seats n : ℕ) (e : Event) (r : Record) (v w : TokenHolding Record) → IsKept replica base core journal cut seats v → length journal ≢ most_records → cut + length journal ≢ max_counter → n ≡ cut + length journal + 1 → r ≡ record { event = e; answer = answer_of (step core e) } → core' ≡ after core e → journal' ≡ journal ++ r ∷ [] → w ≡ keeper v.made v.cut (v.journal ++ (n, r) ∷ []) → IsKept replica base core' journal' cut seats w
 kept_one replica base core core' journal journal' cut seats n e r v w k room left number is_record next longer is =
-    let same_cut : w.cut ≡ v.cut = ap (λ (u : Holding Record). u.cut) is in
+    let same_cut : w.cut ≡ v.cut = ap (λ (u : TokenHolding Record). u.cut) is in
     let event : r.event ≡ e = ap (λ (q : Record). q.event) is_record in
     let answer : r.answer ≡ answer_of (step core e) = ap (λ (q : Record). q.answer) is_record in
     let many = k.cut_is in
@@ -68,7 +68,7 @@ kept_one replica base core core' journal journal' cut seats n e r v w k room lef
     }
 
 -- the records of all entries that were recorded
-all_records : (replica : ℕ) (base core : Core) (journal : List Record) (cut seats : ℕ) (v : Holding Record) → IsKept replica base core journal cut seats v → records_of (recorded v) ≡ records_of v.cut ++ journal
+all_records : (replica : ℕ) (base core : Core) (journal : List Record) (cut seats : ℕ) (v : TokenHolding Record) → IsKept replica base core journal cut seats v → records_of (recorded v) ≡ records_of v.cut ++ journal
 all_records replica base core journal cut seats v k =
     ap records_of (recorded_is journal seats v k.keeper) ∙ records_append v.cut (numbered (length v.cut + 1) journal) ∙ ap (λ l. records_of v.cut ++ l) (records_numbered (length v.cut + 1) journal)
 
@@ -78,7 +78,7 @@ pub record IsAllThatHappened (replica : ℕ) (core : Core) (past : List Record) 
   pub comes_to : core ≡ replayed (fresh replica) past
   pub lawful : IsLegal (fresh replica) past
 
-pub all_happened : (replica : ℕ) (base core : Core) (journal : List Record) (cut seats : ℕ) (v : Holding Record) → IsKept replica base core journal cut seats v → IsAllThatHappened replica core (records_of v.cut ++ journal)
+pub all_happened : (replica : ℕ) (base core : Core) (journal : List Record) (cut seats : ℕ) (v : TokenHolding Record) → IsKept replica base core journal cut seats v → IsAllThatHappened replica core (records_of v.cut ++ journal)
 all_happened replica base core journal cut seats v k =
     let from = fresh base.replica in
     subst (λ n. IsAllThatHappened n core (records_of v.cut ++ journal)) k.own (record {
@@ -87,7 +87,7 @@ all_happened replica base core journal cut seats v k =
     })
 
 -- its entries are those that were recorded
-past_numbered : (replica : ℕ) (base core : Core) (journal : List Record) (cut seats : ℕ) (v : Holding Record) → IsKept replica base core journal cut seats v → numbered 1 (records_of v.cut ++ journal) ≡ recorded v
+past_numbered : (replica : ℕ) (base core : Core) (journal : List Record) (cut seats : ℕ) (v : TokenHolding Record) → IsKept replica base core journal cut seats v → numbered 1 (records_of v.cut ++ journal) ≡ recorded v
 past_numbered replica base core journal cut seats v k =
     let many : 1 + length (records_of v.cut) ≡ length v.cut + 1 = omega (arith, length-map v.cut (λ e. e.1)) in
     numbered_append 1 (records_of v.cut) journal
@@ -95,12 +95,12 @@ past_numbered replica base core journal cut seats v k =
     ∙ sym (recorded_is journal seats v k.keeper)
 
 -- what a seat was told stands among all entries
-pub stands_now : (replica : ℕ) (base core : Core) (journal : List Record) (cut seats : ℕ) (v : Holding Record) (b : Books) (told : List (ℕ × Record)) → IsKept replica base core journal cut seats v → record { replica = base.replica; before = v.cut; journal = journal; seats = seats } ≡ b → All (Contains (recorded v)) told → All (Contains (all_entries_of b)) told
+pub stands_now : (replica : ℕ) (base core : Core) (journal : List Record) (cut seats : ℕ) (v : TokenHolding Record) (b : Books) (told : List (ℕ × Record)) → IsKept replica base core journal cut seats v → record { replica = base.replica; before = v.cut; journal = journal; seats = seats } ≡ b → All (Contains (recorded v)) told → All (Contains (all_entries_of b)) told
 stands_now replica base core journal cut seats v b told k is stands =
     subst (λ (l : List (ℕ × Record)). All (Contains l) told) (recorded_is journal seats v k.keeper ∙ ap all_entries_of is) stands
 
 -- and what it is told now is the next step
-pub step_told : (replica : ℕ) (base core : Core) (journal : List Record) (cut seats n : ℕ) (e : Event) (a : Result Reply Refusal) (r : Record) (v : Holding Record) (old new : List (ℕ × Record)) → IsKept replica base core journal cut seats v → n ≡ cut + length journal + 1 → a ≡ answer_of (step core e) → r ≡ record { event = e; answer = answer_of (step core e) } → All (Contains (recorded v)) old → new ≡ old ++ (n, r) ∷ [] → IsStepAt replica old new e a
+pub step_told : (replica : ℕ) (base core : Core) (journal : List Record) (cut seats n : ℕ) (e : Event) (a : Result Reply Refusal) (r : Record) (v : TokenHolding Record) (old new : List (ℕ × Record)) → IsKept replica base core journal cut seats v → n ≡ cut + length journal + 1 → a ≡ answer_of (step core e) → r ≡ record { event = e; answer = answer_of (step core e) } → All (Contains (recorded v)) old → new ≡ old ++ (n, r) ∷ [] → IsStepAt replica old new e a
 step_told replica base core journal cut seats n e a r v old new k number answer is_record stands told =
     let past = records_of v.cut ++ journal in
     let all = all_happened replica base core journal cut seats v k in
@@ -116,9 +116,9 @@ step_told replica base core journal cut seats n e a r v old new k number answer 
 
 -- rule: cuts
 -- a cut
-pub kept_cut : (replica : ℕ) (base core base' : Core) (journal journal' : List Record) (cut seats n : ℕ) (v w : Holding Record) → IsKept replica base core journal cut seats v → base' ≡ core → journal' ≡ [] → n ≡ length journal → w ≡ keeper v.made (recorded v) [] → IsKept replica base' core journal' (cut + n) seats w
+pub kept_cut : (replica : ℕ) (base core base' : Core) (journal journal' : List Record) (cut seats n : ℕ) (v w : TokenHolding Record) → IsKept replica base core journal cut seats v → base' ≡ core → journal' ≡ [] → n ≡ length journal → w ≡ keeper v.made (recorded v) [] → IsKept replica base' core journal' (cut + n) seats w
 kept_cut replica base core base' journal journal' cut seats n v w k copy empty many is =
-    let same_cut : w.cut ≡ recorded v = ap (λ (u : Holding Record). u.cut) is in
+    let same_cut : w.cut ≡ recorded v = ap (λ (u : TokenHolding Record). u.cut) is in
     let number : base'.replica ≡ base.replica = ap (λ (c : Core). c.replica) (copy ∙ k.state) ∙ replica_stays base journal in
     let all : records_of w.cut ≡ records_of v.cut ++ journal = ap records_of same_cut ∙ all_records replica base core journal cut seats v k in
     let start : fresh replica ≡ fresh base'.replica = ap fresh (sym (number ∙ k.own)) in
@@ -141,7 +141,7 @@ kept_cut replica base core base' journal journal' cut seats n v w k copy empty m
 
 -- rule: cuts
 -- what is handed out goes on where what was cut before it ends
-pub goes_on : (replica : ℕ) (base core base' : Core) (journal : List Record) (cut seats : ℕ) (v : Holding Record) (before : List (ℕ × Record)) → IsKept replica base core journal cut seats v → base' ≡ base → before ≡ v.cut → GoesOn replica base' (cut + 1) before
+pub goes_on : (replica : ℕ) (base core base' : Core) (journal : List Record) (cut seats : ℕ) (v : TokenHolding Record) (before : List (ℕ × Record)) → IsKept replica base core journal cut seats v → base' ≡ base → before ≡ v.cut → GoesOn replica base' (cut + 1) before
 goes_on replica base core base' journal cut seats v before k old same = record {
   own = ap (λ (c : Core). c.replica) old ∙ k.own;
   counted = subst (Counted 1) (sym same) k.keeper.counted;
@@ -151,7 +151,7 @@ goes_on replica base core base' journal cut seats v before k old same = record {
 }
 
 -- rule: cuts
-pub piece_kept : (replica : ℕ) (base core base' : Core) (journal journal' : List Record) (cut seats : ℕ) (v l : Holding Record) → IsKept replica base core journal cut seats v → base' ≡ base → journal' ≡ journal → l ≡ share_holding v.cut v.journal → IsPiece replica base' (cut + 1) journal' (past_of l) l
+pub piece_kept : (replica : ℕ) (base core base' : Core) (journal journal' : List Record) (cut seats : ℕ) (v l : TokenHolding Record) → IsKept replica base core journal cut seats v → base' ≡ base → journal' ≡ journal → l ≡ share_holding v.cut v.journal → IsPiece replica base' (cut + 1) journal' (past_of l) l
 piece_kept replica base core base' journal journal' cut seats v l k old same is =
     let past : past_of l ≡ v.cut = ap past_of is in
     let first : length v.cut + 1 ≡ cut + 1 = ap (λ n. n + 1) (sym k.cut_is) in
@@ -162,7 +162,7 @@ piece_kept replica base core base' journal journal' cut seats v l k old same is 
     }
 
 -- rule: cuts
-pub piece_is : (replica : ℕ) (base core base' : Core) (journal journal' : List Record) (cut seats : ℕ) (v l : Holding Record) (b : Books) → IsKept replica base core journal cut seats v → base' ≡ base → journal' ≡ journal → l ≡ share_holding v.cut v.journal → record { replica = base.replica; before = v.cut; journal = journal; seats = seats } ≡ b → record { base = base'; first = cut + 1; records = journal'; before = past_of l } ≡ piece_of b
+pub piece_is : (replica : ℕ) (base core base' : Core) (journal journal' : List Record) (cut seats : ℕ) (v l : TokenHolding Record) (b : Books) → IsKept replica base core journal cut seats v → base' ≡ base → journal' ≡ journal → l ≡ share_holding v.cut v.journal → record { replica = base.replica; before = v.cut; journal = journal; seats = seats } ≡ b → record { base = base'; first = cut + 1; records = journal'; before = past_of l } ≡ piece_of b
 piece_is replica base core base' journal journal' cut seats v l b k old same is is_books =
     let first : cut + 1 ≡ length v.cut + 1 = ap (λ n. n + 1) k.cut_is in
     let past : past_of l ≡ v.cut = ap past_of is in
@@ -170,9 +170,9 @@ piece_is replica base core base' journal journal' cut seats v l b k old same is 
     here ∙ ap piece_of is_books
 
 -- and what is left
-pub left_is : (replica : ℕ) (base core base' : Core) (journal journal' : List Record) (cut seats : ℕ) (v w : Holding Record) (b : Books) → IsKept replica base core journal cut seats v → base' ≡ core → journal' ≡ [] → w ≡ keeper v.made (recorded v) [] → record { replica = base.replica; before = v.cut; journal = journal; seats = seats } ≡ b → record { replica = base'.replica; before = w.cut; journal = journal'; seats = seats } ≡ after_cut b
+pub left_is : (replica : ℕ) (base core base' : Core) (journal journal' : List Record) (cut seats : ℕ) (v w : TokenHolding Record) (b : Books) → IsKept replica base core journal cut seats v → base' ≡ core → journal' ≡ [] → w ≡ keeper v.made (recorded v) [] → record { replica = base.replica; before = v.cut; journal = journal; seats = seats } ≡ b → record { replica = base'.replica; before = w.cut; journal = journal'; seats = seats } ≡ after_cut b
 left_is replica base core base' journal journal' cut seats v w b k copy empty is is_books =
     let number : base'.replica ≡ base.replica = ap (λ (c : Core). c.replica) (copy ∙ k.state) ∙ replica_stays base journal in
-    let before : w.cut ≡ v.cut ++ numbered (length v.cut + 1) journal = ap (λ (u : Holding Record). u.cut) is ∙ recorded_is journal seats v k.keeper in
+    let before : w.cut ≡ v.cut ++ numbered (length v.cut + 1) journal = ap (λ (u : TokenHolding Record). u.cut) is ∙ recorded_is journal seats v k.keeper in
     let here : record { replica = base'.replica; before = w.cut; journal = journal'; seats = seats } ≡ after_cut (record { replica = base.replica; before = v.cut; journal = journal; seats = seats }) = (λ i. record { replica = number i; before = before i; journal = empty i; seats = seats }) in
     here ∙ ap after_cut is_books

@@ -15,7 +15,7 @@ use Rattle.xds_core.specs.Events.{Merge, Reply}
 use Rattle.xds_core.specs.Legal.{Record}
 use Rattle.xds_core.specs.declared.event.Reply as replied
 use Rattle.xds_node.specs.Told.{IsTold, LeavesNoRecord}
-use Rattle.xds_node.specs.declared.parcels.Receipt.{Receipt}
+use Rattle.xds_node.specs.declared.replication.parcels.Receipt.{Receipt}
 use Rattle.xds_node.specs.Parcels.{IsFrameOf}
 use Rattle.xds_node.specs.Exchanging.{Acknowledges, AreReceipts, HasMerged, IsMerging, IsTaking, Taking, is_merged, lost_after, receipt_for, receipts_due}
 use Rattle.xds_node.proofs.Callings.{Tries}

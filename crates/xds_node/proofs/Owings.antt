@@ -23,7 +23,7 @@ use Rattle.xds_node.specs.WorkersTold.{IsClosing, IsGranted}
 use Rattle.xds_node.specs.Writing.{HasWritten, IsPoll, IsWritten, TurnWrites, WritesAll, responses_of}
 use Rattle.xds_node.specs.Owing.{Asked, Begins, BeginsGiven, Closes, Frames, GivesUp, Goes, GoesGiven, Polls, PutsOnce, PutsSome, WriteAt, WriteLeads, WritesFrom, WritesOn, taken_by, write_at}
 use Rattle.xds_node.specs.Waiting.{Takes}
-use Rattle.xds_node.specs.declared.poll_writer.WriteEnd.{WriteEnd}
+use Rattle.xds_node.specs.declared.streams.poll_writer.WriteEnd.{WriteEnd}
 use Rattle.xds_frames.specs.declared.counted.Counted.{Counted}
 use Rattle.xds_node.proofs.Callings.{Told, behind}
 use Rattle.xds_node.proofs.Passing.{dev}

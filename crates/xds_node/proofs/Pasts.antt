@@ -5,7 +5,7 @@ use Rattle.std.proofs.lemmas.List.Elements.{All-weaker, All-contains, All-append
 use mathlib.Core.Option.{some}
 use lib.ListN.{get_elem?}
 use Rattle.atomic_table.proofs.Lists.{at_set, at_snoc, at_longer, set_else}
-use Rattle.xds_node.specs.declared.holding.Holding.{Holding}
+use Rattle.xds_node.specs.declared.node.holding.TokenHolding.{TokenHolding}
 use Rattle.xds_node.specs.Entries.{weigh, IsBeginning}
 use Rattle.xds_node.specs.Tally.{BeginsIn}
 use Rattle.xds_node.proofs.Covering.{all_by, set_there, in_none, some_set, sole_has}
@@ -21,29 +21,29 @@ begins_any (x ∷ xs) all b = let long = ap length b.1 in absurd (omega arith)
 
 module _ {E : Type 0} where
   -- what was cut before each share of a token is what some token cut first
-  abbrev pub AllBegin : List (Holding E) → Type 0
-  AllBegin views = (i : ℕ) (v : Holding E) → get_elem? views i ≡ some v → All (BeginsIn views) v.pasts
+  abbrev pub AllBegin : List (TokenHolding E) → Type 0
+  AllBegin views = (i : ℕ) (v : TokenHolding E) → get_elem? views i ≡ some v → All (BeginsIn views) v.pasts
 
   -- a token that changes: what it cut first stays so, and what was cut before a share of it was so before, or is what it cut first
-  pub record Begins (v w : Holding E) : Type 0 where
+  pub record Begins (v w : TokenHolding E) : Type 0 where
     pub grows : (past : List (ℕ × E)) → IsBeginning past v.cut → IsBeginning past w.cut
     pub each : (past : List (ℕ × E)) → Contains w.pasts past → Contains v.pasts past ⊎ IsBeginning past w.cut
 
   -- nothing of that changes
-  pub begins_still : (v w : Holding E) → w.cut ≡ v.cut → w.pasts ≡ v.pasts → Begins v w
+  pub begins_still : (v w : TokenHolding E) → w.cut ≡ v.cut → w.pasts ≡ v.pasts → Begins v w
   begins_still v w same_cut same_pasts = record {
     grows = λ past b. subst (IsBeginning past) (sym same_cut) b;
     each = λ past p. inl (subst (λ (l : List (List (ℕ × E))). Contains l past) same_pasts p);
   }
 
   -- after a change of one token
-  begin_set : (views : List (Holding E)) (i : ℕ) (v w : Holding E) → get_elem? views i ≡ some v → ((past : List (ℕ × E)) → IsBeginning past v.cut → IsBeginning past w.cut) → (past : List (ℕ × E)) → BeginsIn views past → BeginsIn (set views i w) past
+  begin_set : (views : List (TokenHolding E)) (i : ℕ) (v w : TokenHolding E) → get_elem? views i ≡ some v → ((past : List (ℕ × E)) → IsBeginning past v.cut → IsBeginning past w.cut) → (past : List (ℕ × E)) → BeginsIn views past → BeginsIn (set views i w) past
   begin_set views i v w at grows past s = some_set (λ u. IsBeginning past u.cut) views i v w at (grows past) s
 
-  all_begin_set : (views : List (Holding E)) (i : ℕ) (v w : Holding E) → AllBegin views → get_elem? views i ≡ some v → ((past : List (ℕ × E)) → IsBeginning past v.cut → IsBeginning past w.cut) → ((past : List (ℕ × E)) → Contains w.pasts past → BeginsIn views past ⊎ IsBeginning past w.cut) → AllBegin (set views i w)
+  all_begin_set : (views : List (TokenHolding E)) (i : ℕ) (v w : TokenHolding E) → AllBegin views → get_elem? views i ≡ some v → ((past : List (ℕ × E)) → IsBeginning past v.cut → IsBeginning past w.cut) → ((past : List (ℕ × E)) → Contains w.pasts past → BeginsIn views past ⊎ IsBeginning past w.cut) → AllBegin (set views i w)
   all_begin_set views i v w all at grows each j u there =
       ⊎_elim
-      (λ (here : (j ≡ i) × (w ≡ u)). subst (λ (x : Holding E). All (BeginsIn (set views i w)) x.pasts) here.1 mine)
+      (λ (here : (j ≡ i) × (w ≡ u)). subst (λ (x : TokenHolding E). All (BeginsIn (set views i w)) x.pasts) here.1 mine)
       (λ (else : (j ≢ i) × (get_elem? views j ≡ some u)). All-weaker (BeginsIn views) (BeginsIn (set views i w)) (begin_set views i v w at grows) u.pasts (all j u else.1))
       (at_set views i j w u there)
     where
@@ -55,7 +55,7 @@ module _ {E : Type 0} where
           (each past in_it))
 
   -- rule: cuts
-  pub pasts_set : (views : List (Holding E)) (i : ℕ) (v w : Holding E) → AllBegin views → get_elem? views i ≡ some v → Begins v w → AllBegin (set views i w)
+  pub pasts_set : (views : List (TokenHolding E)) (i : ℕ) (v w : TokenHolding E) → AllBegin views → get_elem? views i ≡ some v → Begins v w → AllBegin (set views i w)
   pasts_set views i v w all at begins =
       all_begin_set views i v w all at begins.grows (λ past in_it.
       ⊎_elim
@@ -64,12 +64,12 @@ module _ {E : Type 0} where
       (begins.each past in_it))
 
   -- a token is cut in two, of which the first knows what was cut, and the second has the shares
-  pub pasts_fork : (views : List (Holding E)) (i : ℕ) (v w x : Holding E) → AllBegin views → get_elem? views i ≡ some v → w.cut ≡ v.cut → w.pasts ≡ [] → x.pasts ≡ v.pasts → AllBegin (set views i w ++ x ∷ [])
+  pub pasts_fork : (views : List (TokenHolding E)) (i : ℕ) (v w x : TokenHolding E) → AllBegin views → get_elem? views i ≡ some v → w.cut ≡ v.cut → w.pasts ≡ [] → x.pasts ≡ v.pasts → AllBegin (set views i w ++ x ∷ [])
   pasts_fork views i v w x all at same_cut no_past same_pasts j u there =
       ⊎_elim
       (λ (old : get_elem? (set views i w) j ≡ some u). All-weaker (BeginsIn (set views i w)) (BeginsIn (set views i w ++ x ∷ [])) longer u.pasts (first j u old))
       (λ (new : x ≡ u).
-      subst (λ (l : List (List (ℕ × E))). All (BeginsIn (set views i w ++ x ∷ [])) l) (sym same_pasts ∙ ap (λ (y : Holding E). y.pasts) new)
+      subst (λ (l : List (List (ℕ × E))). All (BeginsIn (set views i w ++ x ∷ [])) l) (sym same_pasts ∙ ap (λ (y : TokenHolding E). y.pasts) new)
       (All-weaker (BeginsIn views) (BeginsIn (set views i w ++ x ∷ [])) (λ past s. longer past (begin_set views i v w at grows past s)) v.pasts (all i v at)))
       (at_snoc (set views i w) x u j there)
     where
@@ -84,7 +84,7 @@ module _ {E : Type 0} where
 
   -- rule: cuts
   -- one token is added to another, and is then nothing
-  pub pasts_merge : (views : List (Holding E)) (i other : ℕ) (v w x n : Holding E) → AllBegin views → get_elem? views i ≡ some v → get_elem? views other ≡ some w → ¬ (other ≡ i) → x.cut ≡ v.cut → x.pasts ≡ v.pasts ++ w.pasts → w.cut ≡ n.cut → n.pasts ≡ [] → AllBegin (set (set views i x) other n)
+  pub pasts_merge : (views : List (TokenHolding E)) (i other : ℕ) (v w x n : TokenHolding E) → AllBegin views → get_elem? views i ≡ some v → get_elem? views other ≡ some w → ¬ (other ≡ i) → x.cut ≡ v.cut → x.pasts ≡ v.pasts ++ w.pasts → w.cut ≡ n.cut → n.pasts ≡ [] → AllBegin (set (set views i x) other n)
   pasts_merge views i other v w x n all at there apart same_cut sum same_none no_past =
       all_begin_set (set views i x) other w n first (set_else views i other x apart ∙ there) (λ past b. subst (IsBeginning past) same_none b) (λ past p. absurd (in_none n.pasts past no_past p))
     where
@@ -96,7 +96,7 @@ module _ {E : Type 0} where
 
   -- rule: cuts
   -- where only one token knows what was cut, what was cut before its shares is what it cut first
-  pub begins_own : (views : List (Holding E)) (i : ℕ) (v : Holding E) (g : Holding E → ℕ) → AllBegin views → get_elem? views i ≡ some v → weigh g views ≡ g v → ((j : ℕ) (u : Holding E) → get_elem? views j ≡ some u → g u ≡ 0 → u.cut ≡ []) → All (λ past. IsBeginning past v.cut) v.pasts
+  pub begins_own : (views : List (TokenHolding E)) (i : ℕ) (v : TokenHolding E) (g : TokenHolding E → ℕ) → AllBegin views → get_elem? views i ≡ some v → weigh g views ≡ g v → ((j : ℕ) (u : TokenHolding E) → get_elem? views j ≡ some u → g u ≡ 0 → u.cut ≡ []) → All (λ past. IsBeginning past v.cut) v.pasts
   begins_own views i v g all at alone idle =
       All-weaker (BeginsIn views) (λ past. IsBeginning past v.cut)
       (λ past s. sole_has (λ u. IsBeginning past u.cut) g views i v at alone (λ j u there lone b. begins_any past v.cut (subst (IsBeginning past) (idle j u there lone) b)) s)

@@ -21,7 +21,7 @@ use Rattle.xds_node.proofs.Passing.{dev}
 use Rattle.xds_node.specs.WorkersTold.{IsClosing}
 use Rattle.xds_frames.specs.Devices.{Device, seen}
 use Rattle.xds_frames.specs.declared.counted.Counted.{Counted}
-use Rattle.xds_node.specs.declared.poll_reader.ReadEnd.{ReadEnd}
+use Rattle.xds_node.specs.declared.streams.poll_reader.ReadEnd.{ReadEnd}
 
 none_taken : (n : ℕ) (buf : List ℕ) → n ≤ length buf → take n buf ≡ [] → n ≡ 0
 none_taken n buf fits none = omega (arith, fits, length-take n buf, ap (λ l. length l) none)

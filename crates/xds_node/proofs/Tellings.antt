@@ -16,12 +16,12 @@ use Rattle.xds_exchange.specs.Parts.{IsNextPart, is_part, parts_behind, parts_of
 use Rattle.xds_core.specs.Events.{Reply, Since}
 use Rattle.xds_core.specs.Legal.{Record}
 use Rattle.xds_exchange.specs.Ends.{Begins}
-use Rattle.xds_node.specs.declared.exchange.Ended.{Ended}
-use Rattle.xds_node.specs.declared.exchange.Ended.TheVariants as ended
-use Rattle.xds_node.specs.declared.exchange.SendFailure.{SendFailure}
-use Rattle.xds_node.specs.declared.exchange.SendFailure.TheVariants as unsent
-use Rattle.xds_node.specs.declared.parcels.Receipt.{Receipt}
-use Rattle.xds_node.specs.declared.parcels.Receipt.TheVariants.{Merged, Lost}
+use Rattle.xds_node.specs.declared.replication.exchange.Ended.{Ended}
+use Rattle.xds_node.specs.declared.replication.exchange.Ended.TheVariants as ended
+use Rattle.xds_node.specs.declared.replication.exchange.SendFailure.{SendFailure}
+use Rattle.xds_node.specs.declared.replication.exchange.SendFailure.TheVariants as unsent
+use Rattle.xds_node.specs.declared.replication.parcels.Receipt.{Receipt}
+use Rattle.xds_node.specs.declared.replication.parcels.Receipt.TheVariants.{Merged, Lost}
 use Rattle.xds_node.specs.Parcels.{batch_frame, changed_in, packed, parcels_of}
 use Rattle.xds_node.specs.Exchanging.{Follows, HasTold, IsCutOff, IsGivenUp, IsLastTurn, IsReason, IsTurn, Puts, Settles, Turn, TurnEnds, given_up}
 use Rattle.xds_node.proofs.Callings.{Answering}

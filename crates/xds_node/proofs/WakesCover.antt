@@ -45,7 +45,7 @@ use Rattle.xds_core.proofs.StepLaws.{only_writes_change_the_store, streams_stand
 use Rattle.xds_node.specs.Concerns.{only, written_names, writes, asks, IsInBoth, IsConcernOf, may_meet}
 use Rattle.xds_node.specs.Wakes.{due_at}
 use Rattle.xds_node.specs.WakeLaws.{HoldsCatalogues, CoversWrites, Wants, OnlyReachedWritesCount, WakesCoverTheOwed, WakesCoverTheDue, WakesCoverTheHeld}
-use Rattle.xds_node.specs.declared.concern.Concern.{Concern}
+use Rattle.xds_node.specs.declared.node.concern.Concern.{Concern}
 use Rattle.xds_node.proofs.Covers.{never_fewer}
 
 -- ---- entries: a name that isn't written keeps its own

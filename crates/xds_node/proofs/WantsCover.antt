@@ -42,7 +42,7 @@ use Rattle.xds_core.specs.Streams.{Stream, Message, Sotw, Delta, url_of, cluster
 use Rattle.xds_core.proofs.StepLaws.{streams_stand_apart, done_with, unless_once}
 use Rattle.xds_node.specs.Concerns.{set_of, only, asked_for, meets, covers, lists_it, names_it, subscribes_nothing, IsConcernOf, IsJoined}
 use Rattle.xds_node.specs.WakeLaws.{Wants, WantsBegin, WantsCoverRequests}
-use Rattle.xds_node.specs.declared.concern.Concern.{Concern}
+use Rattle.xds_node.specs.declared.node.concern.Concern.{Concern}
 use Rattle.xds_node.proofs.Covers.{at-joined}
 
 -- ---- what a list asks for

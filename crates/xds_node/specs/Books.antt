@@ -19,7 +19,7 @@ use Rattle.xds_resource.specs.Stamps.{max_counter}
 use Rattle.xds_core.specs.Events.{Event}
 use Rattle.xds_core.specs.Steps.{Core, fresh, step}
 use Rattle.xds_core.specs.Legal.{Record, answer_of, replayed, IsLegal}
-use Rattle.xds_node.specs.declared.holding.Holding.{Holding}
+use Rattle.xds_node.specs.declared.node.holding.TokenHolding.{TokenHolding}
 use Rattle.xds_node.specs.Entries.{numbered, records_of}
 use Rattle.xds_node.specs.Holdings.{IsKeeperOf}
 
@@ -87,7 +87,7 @@ IsFull b = (length b.journal ≡ most_records) ⊎ (length b.before + length b.j
 -- there, and the base is what the records that were cut make of a replica at which nothing happened; so one list of steps is all
 -- that ever happened at the replica of this number. The keeper's token has these records, under numbers from 1 on, and has made so many
 -- seats.
-pub record IsKept (replica : ℕ) (base core : Core) (journal : List Record) (cut seats : ℕ) (token : Holding Record) : Type 0 where
+pub record IsKept (replica : ℕ) (base core : Core) (journal : List Record) (cut seats : ℕ) (token : TokenHolding Record) : Type 0 where
   pub own : base.replica ≡ replica
   pub state : core ≡ replayed base journal
   pub legal : IsLegal base journal

@@ -33,8 +33,8 @@ use Rattle.xds_core.specs.Streams.{Message, Sotw, Delta, url_of}
 use Rattle.xds_core.specs.Events as events
 use Rattle.xds_core.specs.Events.{Event}
 use Rattle.xds_node.specs.Prints.{print, shares}
-use Rattle.xds_node.specs.declared.concern.Concern.{Concern}
-use Rattle.xds_node.specs.declared.concerns.TypeSet.{TypeSet}
+use Rattle.xds_node.specs.declared.node.concern.Concern.{Concern}
+use Rattle.xds_node.specs.declared.node.concerns.TypeSet.{TypeSet}
 
 -- the types that are in a set
 abbrev pub set_of : TypeSet → PerType Bool

@@ -42,12 +42,12 @@ use Rattle.xds_core.specs.Legal.{Record}
 use Rattle.xds_frames.specs.Devices.{MoreFailed}
 use Rattle.xds_exchange.specs.Ends.{Begins}
 use Rattle.xds_node.specs.Told.{LeavesNoRecord}
-use Rattle.xds_node.specs.declared.exchange.Ended.{Ended}
-use Rattle.xds_node.specs.declared.exchange.Ended.TheVariants.{Stopped, Unlinked}
-use Rattle.xds_node.specs.declared.exchange.SendFailure.{SendFailure}
-use Rattle.xds_node.specs.declared.exchange.SendFailure.TheVariants as unsent
-use Rattle.xds_node.specs.declared.parcels.Receipt.{Receipt}
-use Rattle.xds_node.specs.declared.parcels.Receipt.TheVariants.{Merged, Lost}
+use Rattle.xds_node.specs.declared.replication.exchange.Ended.{Ended}
+use Rattle.xds_node.specs.declared.replication.exchange.Ended.TheVariants.{Stopped, Unlinked}
+use Rattle.xds_node.specs.declared.replication.exchange.SendFailure.{SendFailure}
+use Rattle.xds_node.specs.declared.replication.exchange.SendFailure.TheVariants as unsent
+use Rattle.xds_node.specs.declared.replication.parcels.Receipt.{Receipt}
+use Rattle.xds_node.specs.declared.replication.parcels.Receipt.TheVariants.{Merged, Lost}
 use Rattle.xds_node.specs.WorkersTold.{IsGranted, IsTriedBefore, IsTriedInVain}
 use Rattle.xds_node.specs.Parcels.{parcels_in, marks_in, IsFrameOf}
 

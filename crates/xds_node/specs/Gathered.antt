@@ -6,7 +6,7 @@ use Rattle.std.specs.List.{list_any}
 use Rattle.xds_resource.specs.declared.types.TypeName.{TypeName}
 use Rattle.xds_node.specs.Prints.{print}
 use Rattle.xds_node.specs.Concerns.{lists_it}
-use Rattle.xds_node.specs.declared.gathered.Gathered.{Gathered}
+use Rattle.xds_node.specs.declared.node.gathered.Gathered.{Gathered}
 
 -- whether a fingerprint is among them; where there are all, each is
 abbrev pub has : Gathered → ℕ → Bool

@@ -20,12 +20,12 @@
 --     IsClosed                 it is the keeper of a journal with these records once seats were put into it
 use Rattle.std.specs.Prelude.{◌≡◌, ℕ, ◌+◌, List, [], ◌∷◌, ◌++◌, length, map, get_or, All, Contains, ◌==◌, Bool, true, IsPermutation}
 use Rattle.std.specs.List.{flat_map}
-use Rattle.xds_node.specs.declared.holding.Holding.{Holding}
+use Rattle.xds_node.specs.declared.node.holding.TokenHolding.{TokenHolding}
 use Rattle.xds_node.specs.Entries.{numbered, Counted}
 
 module _ {E : Type 0} where
   -- the one token that knows all records
-  abbrev pub keeper : ℕ → List (ℕ × E) → List (ℕ × E) → Holding E
+  abbrev pub keeper : ℕ → List (ℕ × E) → List (ℕ × E) → TokenHolding E
   keeper made cut journal = record {
     keepers = 1;
     made = made;
@@ -39,7 +39,7 @@ module _ {E : Type 0} where
   }
 
   -- one seat, what it was told, and what it was refused
-  abbrev pub seat_holding : List (ℕ × E) → List E → Holding E
+  abbrev pub seat_holding : List (ℕ × E) → List E → TokenHolding E
   seat_holding told refused = record {
     keepers = 0;
     made = 0;
@@ -53,7 +53,7 @@ module _ {E : Type 0} where
   }
 
   -- a share of what was cut, and what was cut before it
-  abbrev pub share_holding : List (ℕ × E) → List (ℕ × E) → Holding E
+  abbrev pub share_holding : List (ℕ × E) → List (ℕ × E) → TokenHolding E
   share_holding past share = record {
     keepers = 0;
     made = 0;
@@ -66,19 +66,19 @@ module _ {E : Type 0} where
     pasts = past ∷ [];
   }
 
-  abbrev pub nothing : Holding E
+  abbrev pub nothing : TokenHolding E
   nothing = record { keepers = 0; made = 0; cut = []; journal = []; seats = 0; told = []; refused = []; share = []; pasts = [] }
 
   -- all that was recorded, as far as a token knows: what was cut, and the journal
-  abbrev pub recorded : Holding E → List (ℕ × E)
+  abbrev pub recorded : TokenHolding E → List (ℕ × E)
   recorded v = v.cut ++ v.journal
 
   -- what was cut before the share that a token has
-  abbrev pub past_of : Holding E → List (ℕ × E)
+  abbrev pub past_of : TokenHolding E → List (ℕ × E)
   past_of v = get_or v.pasts 0 []
 
   -- what a keeper knows and a seat was refused, and what is lent without it
-  abbrev pub kept_part : Holding E → Holding E
+  abbrev pub kept_part : TokenHolding E → TokenHolding E
   kept_part v = record {
     keepers = v.keepers;
     made = v.made;
@@ -91,7 +91,7 @@ module _ {E : Type 0} where
     pasts = [];
   }
 
-  abbrev pub lent_part : Holding E → Holding E
+  abbrev pub lent_part : TokenHolding E → TokenHolding E
   lent_part v = record {
     keepers = 0;
     made = 0;
@@ -105,7 +105,7 @@ module _ {E : Type 0} where
   }
 
   -- the first, with what the second was lent
-  abbrev pub both : Holding E → Holding E → Holding E
+  abbrev pub both : TokenHolding E → TokenHolding E → TokenHolding E
   both v w = record {
     keepers = v.keepers;
     made = v.made;
@@ -119,7 +119,7 @@ module _ {E : Type 0} where
   }
 
   -- an entry more, in the journal and of what the seats were told
-  abbrev pub with_entry : ℕ → E → Holding E → Holding E
+  abbrev pub with_entry : ℕ → E → TokenHolding E → TokenHolding E
   with_entry n e v = record {
     keepers = v.keepers;
     made = v.made;
@@ -133,7 +133,7 @@ module _ {E : Type 0} where
   }
 
   -- a call more that was refused
-  abbrev pub with_refused : E → Holding E → Holding E
+  abbrev pub with_refused : E → TokenHolding E → TokenHolding E
   with_refused e v = record {
     keepers = v.keepers;
     made = v.made;
@@ -147,7 +147,7 @@ module _ {E : Type 0} where
   }
 
   -- a seat more
-  abbrev pub with_seat : Holding E → Holding E
+  abbrev pub with_seat : TokenHolding E → TokenHolding E
   with_seat v = record {
     keepers = v.keepers;
     made = v.made + 1;
@@ -162,7 +162,7 @@ module _ {E : Type 0} where
 
   -- rule: cuts
   -- the journal is cut, and shared, with what was cut before
-  abbrev pub after_cut : Holding E → Holding E
+  abbrev pub after_cut : TokenHolding E → TokenHolding E
   after_cut v = record {
     keepers = v.keepers;
     made = v.made;
@@ -176,7 +176,7 @@ module _ {E : Type 0} where
   }
 
   -- with these seats put into it, each of which was told these entries, and refused these
-  abbrev pub with_seats : {X : Type 0} → (X → List (ℕ × E)) → (X → List E) → Holding E → List X → Holding E
+  abbrev pub with_seats : {X : Type 0} → (X → List (ℕ × E)) → (X → List E) → TokenHolding E → List X → TokenHolding E
   with_seats told_of refused_of v xs = record {
     keepers = v.keepers;
     made = v.made;
@@ -190,7 +190,7 @@ module _ {E : Type 0} where
   }
 
   -- with these shares put into it, before each of which this was cut
-  abbrev pub with_shares : {X : Type 0} → (X → List (ℕ × E)) → (X → List (ℕ × E)) → Holding E → List X → Holding E
+  abbrev pub with_shares : {X : Type 0} → (X → List (ℕ × E)) → (X → List (ℕ × E)) → TokenHolding E → List X → TokenHolding E
   with_shares before_of share_of v xs = record {
     keepers = v.keepers;
     made = v.made;
@@ -204,19 +204,19 @@ module _ {E : Type 0} where
   }
 
   -- it is the keeper, and has no seat and no share
-  abbrev pub IsAlone : Holding E → Type 0
+  abbrev pub IsAlone : TokenHolding E → Type 0
   IsAlone v = v ≡ keeper v.made v.cut v.journal
 
   -- it is the keeper of a journal with these records and of so many seats, none of which it has itself:
   -- the entries that were cut are numbered from 1, and the records on from there
-  pub record IsKeeperOf (journal : List E) (seats : ℕ) (v : Holding E) : Type 0 where
+  pub record IsKeeperOf (journal : List E) (seats : ℕ) (v : TokenHolding E) : Type 0 where
     pub is : v ≡ keeper seats v.cut (numbered (length v.cut + 1) journal)
     pub counted : Counted 1 v.cut
 
   -- it is the keeper of a journal with these records once seats were put into it, so many as it has now: it has no share, each entry
   -- that the seats were told is recorded, and where the seats are all that were made, what they were told is what was recorded, in
   -- some order
-  pub record IsClosed (journal : List E) (complete : Bool) (v : Holding E) : Type 0 where
+  pub record IsClosed (journal : List E) (complete : Bool) (v : TokenHolding E) : Type 0 where
     pub one : v.keepers ≡ 1
     pub no_share : v.share ≡ []
     pub no_pasts : v.pasts ≡ []

@@ -19,7 +19,7 @@ pub mod Writing
 pub mod Reading
 pub mod Parcels
 pub mod Exchanging
-pub mod Whole
+pub mod TwoNodes
 pub mod Owing
 pub mod Concerns
 pub mod Prints

@@ -16,7 +16,7 @@ use Rattle.std.specs.Prelude.{◌≡◌, ℕ, ◌+◌, List, ◌++◌, length, B
 use Rattle.std.specs.List.{flat_map}
 use Rattle.xds_core.specs.Steps.{Core, fresh}
 use Rattle.xds_core.specs.Legal.{Record, replayed, IsLegal}
-use Rattle.xds_node.specs.declared.holding.Holding.{Holding}
+use Rattle.xds_node.specs.declared.node.holding.TokenHolding.{TokenHolding}
 use Rattle.xds_node.specs.Entries.{numbered, records_of, Counted, IsBeginning}
 use Rattle.xds_node.specs.Holdings.{share_holding, IsClosed}
 use Rattle.xds_node.specs.Books.{Books, base_of}
@@ -57,7 +57,7 @@ pub record GoesOn (replica : ℕ) (base : Core) (first : ℕ) (before : List (�
 -- rule: cuts
 -- Each answer in it is the core's, it goes on where what was cut before it ends, and the token is the share of its records, behind
 -- what was cut before.
-pub record IsPiece (replica : ℕ) (base : Core) (first : ℕ) (records : List Record) (before : List (ℕ × Record)) (token : Holding Record) : Type 0 where
+pub record IsPiece (replica : ℕ) (base : Core) (first : ℕ) (records : List Record) (before : List (ℕ × Record)) (token : TokenHolding Record) : Type 0 where
   pub legal : IsLegal base records
   pub goes_on : GoesOn replica base first before
   pub share : token ≡ share_holding before (numbered first records)
@@ -96,7 +96,7 @@ pub record IsWhole (s : Story) : Type 0 where
   pub legal : IsLegal s.base s.records
 
 -- the same of what the history of the replica of this number keeps, and its token is the keeper's, once the seats were put into it
-pub record IsStory (replica : ℕ) (base : Core) (records : List Record) (cut : ℕ) (complete : Bool) (token : Holding Record) : Type 0 where
+pub record IsStory (replica : ℕ) (base : Core) (records : List Record) (cut : ℕ) (complete : Bool) (token : TokenHolding Record) : Type 0 where
   pub own : base.replica ≡ replica
   pub cut_is : cut ≡ length token.cut
   pub closed : IsClosed records complete token

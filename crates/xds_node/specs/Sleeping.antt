@@ -4,8 +4,8 @@
 --     left_in     a slot once what was written woke its task, or didn't
 use Rattle.std.specs.Prelude.{Bool, false, ◌||◌, None, if◌then◌else◌}
 use Rattle.xds_node.specs.Concerns.{may_meet}
-use Rattle.xds_node.specs.declared.concern.Concern.{Concern}
-use Rattle.xds_node.specs.declared.sleepers.Slot.{Slot}
+use Rattle.xds_node.specs.declared.node.concern.Concern.{Concern}
+use Rattle.xds_node.specs.declared.node.sleepers.Slot.{Slot}
 
 -- rule: wake-ups
 -- Whether the task of a slot is woken by what was written: that may be what its stream wants, or the task waits since writers are held back.

@@ -30,7 +30,7 @@ use Rattle.xds_core.specs.Stores.{Store}
 use Rattle.xds_core.specs.Streams.{Stream, opening, owes_of, to_send}
 use Rattle.xds_node.specs.Concerns.{set_of, written_names, writes, covers, IsInBoth, IsConcernOf, IsJoined, may_meet}
 use Rattle.xds_node.specs.Wakes.{due_at}
-use Rattle.xds_node.specs.declared.concern.Concern.{Concern}
+use Rattle.xds_node.specs.declared.node.concern.Concern.{Concern}
 
 -- each write stands under its own name, of each type
 abbrev pub HoldsCatalogues : Store → Type 0

@@ -14,10 +14,10 @@ use Rattle.xds_core.specs.Streams.{first_due}
 use Rattle.xds_core.specs.Events as events
 use Rattle.xds_core.specs.Events.{Event}
 use Rattle.xds_core.specs.Steps.{Core}
-use Rattle.xds_node.specs.declared.wakes.Wake.{Wake}
-use Rattle.xds_node.specs.declared.wakes.Wake.TheVariants.{Nobody, Writer, All}
-use Rattle.xds_node.specs.declared.desk.Due.{Due}
-use Rattle.xds_node.specs.declared.desk.Due.TheVariants.{Ready, Closed}
+use Rattle.xds_node.specs.declared.node.wakes.Wake.{Wake}
+use Rattle.xds_node.specs.declared.node.wakes.Wake.TheVariants.{Nobody, Writer, All}
+use Rattle.xds_node.specs.declared.node.desk.WaitEnd.{WaitEnd}
+use Rattle.xds_node.specs.declared.node.desk.WaitEnd.TheVariants.{Ready, Closed}
 
 -- rule: wake-ups
 -- A request or the end of a stream wakes that stream's writer alone, and a write all that may be owed something. A poll wakes nobody:
@@ -61,7 +61,7 @@ due_at c n = option_map (λ s. is_some (first_due c.store s types)) (finmap.get 
 
 -- rule: wake-ups
 -- what a wait ends by: it ends once something is due, or the stream isn't open
-abbrev pub wait_ends : Option Bool → Option Due
+abbrev pub wait_ends : Option Bool → Option WaitEnd
 wait_ends None = Some Closed
 wait_ends (Some true) = Some Ready
 wait_ends (Some false) = None

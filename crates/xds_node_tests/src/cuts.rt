@@ -8,7 +8,7 @@ use std::alloc::Global;
 use std::marker::Brand;
 use std::sync::Wait;
 use std::test::Fail;
-use xds_node::{Line, Node, NodeName, Opened};
+use xds_node::{JournalLine, NodeName, Opened, SharedNode};
 use xds_resource::Refusal;
 
 // What a node leaves that was cut twice.
@@ -76,18 +76,18 @@ fn cut_twice<A: Site, R: Wait>(
 fn cuts<N: NodeName, R: Wait>(
     rt: &R,
     alloc: Global,
-    opened: Opened<Line>,
+    opened: Opened<JournalLine>,
 ) -> Result<Outcome, Refusal>
     requires name { opened ≡ N.id }
     requires number { N.replica ≡ 1 }
 {
-    cut_twice(rt, alloc, Node::<N>::new(alloc, opened, 1))
+    cut_twice(rt, alloc, SharedNode::<N>::new(alloc, opened, 1))
 }
 
 // rule: cuts
 #[test]
 fn each_record_is_handed_out_once(rt: HostRuntime) -> Result<(), Fail> {
-    let opened = Opened::<Line>::new(rt.alloc())?;
+    let opened = Opened::<JournalLine>::new(rt.alloc())?;
     let outcome = cuts::<Brand, _>(&rt, rt.alloc(), opened)?;
     assert!(rt;
         outcome.counts == (3, 2),
@@ -105,7 +105,7 @@ fn each_record_is_handed_out_once(rt: HostRuntime) -> Result<(), Fail> {
 // rule: cuts
 #[test]
 fn each_segment_begins_where_the_one_before_it_ends(rt: HostRuntime) -> Result<(), Fail> {
-    let opened = Opened::<Line>::new(rt.alloc())?;
+    let opened = Opened::<JournalLine>::new(rt.alloc())?;
     let outcome = cuts::<Brand, _>(&rt, rt.alloc(), opened)?;
     assert!(rt; outcome.is_empty, "nothing had happened before the first");
     assert!(rt;

@@ -6,7 +6,7 @@ use std::alloc::Global;
 use std::marker::Brand;
 use std::sync::Wait;
 use std::test::Fail;
-use xds_node::{Line, Node, NodeName, Opened};
+use xds_node::{JournalLine, NodeName, Opened, SharedNode};
 use xds_resource::Refusal;
 
 // Puts clusters of these names, and cuts the node.
@@ -79,19 +79,19 @@ fn audited<A: Site, R: Wait>(
 fn audits<N: NodeName, R: Wait>(
     rt: &R,
     alloc: Global,
-    opened: Opened<Line>,
+    opened: Opened<JournalLine>,
     order: Order,
 ) -> Result<bool, Refusal>
     requires name { opened ≡ N.id }
     requires number { N.replica ≡ 1 }
 {
-    audited(rt, alloc, Node::<N>::new(alloc, opened, 1), order)
+    audited(rt, alloc, SharedNode::<N>::new(alloc, opened, 1), order)
 }
 
 // rule: cuts
 #[test]
 fn segments_are_all_that_was_cut(rt: HostRuntime) -> Result<(), Fail> {
-    let opened = Opened::<Line>::new(rt.alloc())?;
+    let opened = Opened::<JournalLine>::new(rt.alloc())?;
     assert!(rt;
         audits::<Brand, _>(&rt, rt.alloc(), opened, Order::AsCut)?,
         "an empty one among them is no gap"
@@ -102,7 +102,7 @@ fn segments_are_all_that_was_cut(rt: HostRuntime) -> Result<(), Fail> {
 // rule: cuts
 #[test]
 fn a_segment_that_is_missing_is_a_gap(rt: HostRuntime) -> Result<(), Fail> {
-    let opened = Opened::<Line>::new(rt.alloc())?;
+    let opened = Opened::<JournalLine>::new(rt.alloc())?;
     assert!(rt;
         !audits::<Brand, _>(&rt, rt.alloc(), opened, Order::WithoutTheLast)?,
         "a record is missing"
@@ -113,7 +113,7 @@ fn a_segment_that_is_missing_is_a_gap(rt: HostRuntime) -> Result<(), Fail> {
 // rule: cuts
 #[test]
 fn segments_in_another_order_are_a_gap(rt: HostRuntime) -> Result<(), Fail> {
-    let opened = Opened::<Line>::new(rt.alloc())?;
+    let opened = Opened::<JournalLine>::new(rt.alloc())?;
     assert!(rt;
         !audits::<Brand, _>(&rt, rt.alloc(), opened, Order::Backwards)?,
         "they don't begin with record 1"
@@ -138,12 +138,12 @@ fn one_of_two<A: Site, R: Wait>(
 fn lacks_a_seat<N: NodeName, R: Wait>(
     rt: &R,
     alloc: Global,
-    opened: Opened<Line>,
+    opened: Opened<JournalLine>,
 ) -> Result<bool, Refusal>
     requires name { opened ≡ N.id }
     requires number { N.replica ≡ 1 }
 {
-    one_of_two(rt, alloc, Node::<N>::new(alloc, opened, 1))
+    one_of_two(rt, alloc, SharedNode::<N>::new(alloc, opened, 1))
 }
 
 // Whether it is complete where two of two are.
@@ -161,18 +161,18 @@ fn two_of_two<A: Site, R: Wait>(
 fn has_both_seats<N: NodeName, R: Wait>(
     rt: &R,
     alloc: Global,
-    opened: Opened<Line>,
+    opened: Opened<JournalLine>,
 ) -> Result<bool, Refusal>
     requires name { opened ≡ N.id }
     requires number { N.replica ≡ 1 }
 {
-    two_of_two(rt, alloc, Node::<N>::new(alloc, opened, 1))
+    two_of_two(rt, alloc, SharedNode::<N>::new(alloc, opened, 1))
 }
 
 // rule: one-seat
 #[test]
 fn each_call_makes_one_seat(rt: HostRuntime) -> Result<(), Fail> {
-    let opened = Opened::<Line>::new(rt.alloc())?;
+    let opened = Opened::<JournalLine>::new(rt.alloc())?;
     assert!(rt;
         has_both_seats::<Brand, _>(&rt, rt.alloc(), opened)?,
         "both seats were handed in, and no other was made"
@@ -183,7 +183,7 @@ fn each_call_makes_one_seat(rt: HostRuntime) -> Result<(), Fail> {
 // rule: one-seat
 #[test]
 fn without_a_seat_it_is_not_complete(rt: HostRuntime) -> Result<(), Fail> {
-    let opened = Opened::<Line>::new(rt.alloc())?;
+    let opened = Opened::<JournalLine>::new(rt.alloc())?;
     assert!(rt;
         !lacks_a_seat::<Brand, _>(&rt, rt.alloc(), opened)?,
         "one seat of two was handed in"

@@ -7,7 +7,7 @@ use std::alloc::Global;
 use std::marker::Brand;
 use std::sync::Wait;
 use std::test::Fail;
-use xds_node::{Line, MOST_RECORDS, Node, NodeName, Opened};
+use xds_node::{JournalLine, MOST_RECORDS, NodeName, Opened, SharedNode};
 use xds_resource::Refusal;
 
 // Fills a journal with refused events, each of which is recorded.
@@ -102,18 +102,18 @@ fn full<A: Site, R: Wait>(
 fn fills_up<N: NodeName, R: Wait>(
     rt: &R,
     alloc: Global,
-    opened: Opened<Line>,
+    opened: Opened<JournalLine>,
 ) -> Result<Outcome, Refusal>
     requires name { opened ≡ N.id }
     requires number { N.replica ≡ 1 }
 {
-    full(rt, alloc, Node::<N>::new(alloc, opened, 1))
+    full(rt, alloc, SharedNode::<N>::new(alloc, opened, 1))
 }
 
 // rule: cuts
 #[test]
 fn a_full_journal_takes_no_record_until_it_is_cut(rt: HostRuntime) -> Result<(), Fail> {
-    let opened = Opened::<Line>::new(rt.alloc())?;
+    let opened = Opened::<JournalLine>::new(rt.alloc())?;
     let outcome = fills_up::<Brand, _>(&rt, rt.alloc(), opened)?;
     assert!(rt;
         outcome.cut == 65536,

@@ -9,7 +9,7 @@ use std::alloc::Global;
 use std::marker::Brand;
 use std::sync::Wait;
 use std::test::Fail;
-use xds_node::{Line, Node, NodeName, Opened};
+use xds_node::{JournalLine, NodeName, Opened, SharedNode};
 use xds_resource::Refusal;
 
 // The counter of a write, and whether its call was refused at first.
@@ -85,17 +85,17 @@ fn short<A: Site, R: Wait>(
 fn refused_of<N: NodeName, R: Wait>(
     rt: &R,
     alloc: Global,
-    opened: Opened<Line>,
+    opened: Opened<JournalLine>,
 ) -> Result<Refused, Refusal>
     requires name { opened ≡ N.id }
     requires number { N.replica ≡ 1 }
 {
-    short(rt, alloc, Node::<N>::new(alloc, opened, 1))
+    short(rt, alloc, SharedNode::<N>::new(alloc, opened, 1))
 }
 
 #[test]
 fn a_node_without_memory(rt: HostRuntime) -> Result<(), Fail> {
-    let opened = Opened::<Line>::new(rt.alloc())?;
+    let opened = Opened::<JournalLine>::new(rt.alloc())?;
     let refused = refused_of::<Brand, _>(&rt, rt.alloc(), opened)?;
     if refused.call {
         println!(rt; "refused, and went on: call")?;

@@ -9,7 +9,7 @@ use std::marker::Brand;
 use std::sync::Wait;
 use std::test::Fail;
 use std::thread::Threads;
-use xds_node::{Line, Node, NodeName, Opened};
+use xds_node::{JournalLine, NodeName, Opened, SharedNode};
 use xds_resource::Refusal;
 
 const SEATS: usize = 4;
@@ -155,12 +155,12 @@ fn four<A: Site>(
 fn four_seats<N: NodeName + Send + Sync, R: Threads + Wait + Sync>(
     rt: &R,
     alloc: Global,
-    opened: Opened<Line>,
+    opened: Opened<JournalLine>,
 ) -> Result<Outcome, Refusal>
     requires name { opened ≡ N.id }
     requires number { N.replica ≡ 1 }
 {
-    let node = Node::<N>::new(alloc, opened, 1)?;
+    let node = SharedNode::<N>::new(alloc, opened, 1)?;
     let done = all_work(rt, alloc, &node);
     four(alloc, node, done)
 }
@@ -168,7 +168,7 @@ fn four_seats<N: NodeName + Send + Sync, R: Threads + Wait + Sync>(
 // rule: one-seat
 #[test]
 fn four_seats_are_told_each_counter_once(rt: HostRuntime) -> Result<(), Fail> {
-    let opened = Opened::<Line>::new(rt.alloc())?;
+    let opened = Opened::<JournalLine>::new(rt.alloc())?;
     let outcome = four_seats::<Brand, _>(&rt, rt.alloc(), opened)?;
     assert!(rt;
         outcome.told == 4000,
@@ -195,18 +195,18 @@ fn found<A: Site, R: Wait>(
 fn finds_its_write<N: NodeName, R: Wait>(
     rt: &R,
     alloc: Global,
-    opened: Opened<Line>,
+    opened: Opened<JournalLine>,
 ) -> Result<(usize, u16), Refusal>
     requires name { opened ≡ N.id }
     requires number { N.replica ≡ 7 }
 {
-    found(rt, alloc, Node::<N>::new(alloc, opened, 7))
+    found(rt, alloc, SharedNode::<N>::new(alloc, opened, 7))
 }
 
 // rule: one-seat
 #[test]
 fn a_seat_reads_what_it_wrote(rt: HostRuntime) -> Result<(), Fail> {
-    let opened = Opened::<Line>::new(rt.alloc())?;
+    let opened = Opened::<JournalLine>::new(rt.alloc())?;
     let (clusters, writer) = finds_its_write::<Brand, _>(&rt, rt.alloc(), opened)?;
     assert!(rt; clusters == 1, "the snapshot has the cluster");
     assert!(rt;

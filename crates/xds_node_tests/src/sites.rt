@@ -5,7 +5,7 @@ use std::alloc::Global;
 use std::sync::Wait;
 use xds_core::{Core, Event, Marks, Reply, Request};
 use xds_message::DeltaDiscoveryRequest;
-use xds_node::{Due, History, Line, Node, NodeName, Seat, Segment, Unrecorded};
+use xds_node::{History, JournalLine, NodeName, Seat, Segment, SharedNode, Unrecorded, WaitEnd};
 use xds_resource::{AnyResource, Groups, Refusal, TypeName};
 
 /// Events of the tests.
@@ -93,7 +93,7 @@ fn clusters_of(alloc: Global, core: &Core) -> Result<String, Refusal> {
 }
 
 // The same of a replica at which these events happened, each with the answer that the record has.
-fn replayed(alloc: Global, core: Core, records: &[Line]) -> Result<String, Refusal> {
+fn replayed(alloc: Global, core: Core, records: &[JournalLine]) -> Result<String, Refusal> {
     let mut core = core;
     let mut done = Ok(());
     for line in records {
@@ -107,7 +107,7 @@ fn replayed(alloc: Global, core: Core, records: &[Line]) -> Result<String, Refus
     held
 }
 
-fn again(alloc: Global, core: &mut Core, line: &Line) -> Result<(), Refusal> {
+fn again(alloc: Global, core: &mut Core, line: &JournalLine) -> Result<(), Refusal> {
     let answer = core.step(line.event().try_copy(alloc)?);
     let is_same = answer.is_ok() == line.answer().is_ok();
     drop(answer);
@@ -189,14 +189,14 @@ pub(crate) trait Site: Drop {
 
     fn close(self, seats: Vec<Self::Seat>) -> Self::Left;
 
-    fn wait_due<R: Wait>(&self, rt: &R, stream: u64) -> Due;
+    fn wait_due<R: Wait>(&self, rt: &R, stream: u64) -> WaitEnd;
 
     fn wait_changed<R: Wait>(&self, rt: &R, seen: Marks) -> Option<Marks>;
 
     fn stop<R: Wait>(&self, rt: &R);
 }
 
-impl<N: NodeName> Site for Node<N> {
+impl<N: NodeName> Site for SharedNode<N> {
     type Seat = Seat<N>;
 
     type Event = Event;
@@ -208,7 +208,7 @@ impl<N: NodeName> Site for Node<N> {
     type Left = History<N>;
 
     fn seat<R: Wait>(&self, rt: &R) -> Result<Seat<N>, Refusal> {
-        Node::seat(self, rt)
+        SharedNode::seat(self, rt)
     }
 
     fn call<R: Wait>(
@@ -217,31 +217,31 @@ impl<N: NodeName> Site for Node<N> {
         seat: &mut Seat<N>,
         event: Event,
     ) -> Result<Result<Reply, Refusal>, Unrecorded> {
-        Node::call(self, rt, seat, event)
+        SharedNode::call(self, rt, seat, event)
     }
 
     fn cut<R: Wait>(&self, rt: &R) -> Result<Segment<N>, Refusal> {
-        Node::cut(self, rt)
+        SharedNode::cut(self, rt)
     }
 
     fn cut_full<R: Wait>(&self, rt: &R) -> Result<Option<Segment<N>>, Refusal> {
-        Node::cut_full(self, rt)
+        SharedNode::cut_full(self, rt)
     }
 
     fn close(self, seats: Vec<Seat<N>>) -> History<N> {
-        Node::close(self, seats)
+        SharedNode::close(self, seats)
     }
 
-    fn wait_due<R: Wait>(&self, rt: &R, stream: u64) -> Due {
-        Node::wait_due(self, rt, stream)
+    fn wait_due<R: Wait>(&self, rt: &R, stream: u64) -> WaitEnd {
+        SharedNode::wait_due(self, rt, stream)
     }
 
     fn wait_changed<R: Wait>(&self, rt: &R, seen: Marks) -> Option<Marks> {
-        Node::wait_changed(self, rt, seen)
+        SharedNode::wait_changed(self, rt, seen)
     }
 
     fn stop<R: Wait>(&self, rt: &R) {
-        Node::stop(self, rt)
+        SharedNode::stop(self, rt)
     }
 }
 

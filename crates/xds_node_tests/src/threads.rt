@@ -7,14 +7,14 @@ use std::alloc::Global;
 use std::sync::Wait;
 use std::thread::{Threads, join, map_vec};
 use xds_core::{Event, Marks};
-use xds_node::{Due, Node, NodeName, Seat};
+use xds_node::{NodeName, Seat, SharedNode, WaitEnd};
 use xds_resource::Refusal;
 
 /// All workers at once, each in a thread of its own.
 pub(crate) fn all_work<N: NodeName + Send + Sync, R: Threads + Wait + Sync>(
     rt: &R,
     alloc: Global,
-    node: &Node<N>,
+    node: &SharedNode<N>,
 ) -> Result<Vec<Worker<Seat<N>>>, Refusal> {
     let workers = workers(rt, alloc, node)?;
     Ok(map_vec(rt, workers, &|worker| { worked(rt, alloc, node, worker) })?)
@@ -23,11 +23,11 @@ pub(crate) fn all_work<N: NodeName + Send + Sync, R: Threads + Wait + Sync>(
 /// What a thread that waits for a stream sees while another makes a call.
 pub(crate) fn waits_and_calls<N: NodeName + Send + Sync, R: Threads + Wait + Sync>(
     rt: &R,
-    node: &Node<N>,
+    node: &SharedNode<N>,
     stream: u64,
     seat: Seat<N>,
     event: Event,
-) -> (Due, (Seat<N>, Result<(), Refusal>)) {
+) -> (WaitEnd, (Seat<N>, Result<(), Refusal>)) {
     join(
         rt,
         || node.wait_due(rt, stream),
@@ -39,7 +39,7 @@ pub(crate) fn waits_and_calls<N: NodeName + Send + Sync, R: Threads + Wait + Syn
 /// the writers back until these events have happened.
 pub(crate) fn counts_and_holds<N: NodeName + Send + Sync, R: Threads + Wait + Sync>(
     rt: &R,
-    node: &Node<N>,
+    node: &SharedNode<N>,
     stream: u64,
     seats: (Seat<N>, Seat<N>),
     events: (Event, Event),
@@ -57,7 +57,7 @@ pub(crate) fn counts_and_holds<N: NodeName + Send + Sync, R: Threads + Wait + Sy
 // Waits until something is due on a stream, and counts the clusters then.
 fn counted_when_due<N: NodeName, R: Wait>(
     rt: &R,
-    node: &Node<N>,
+    node: &SharedNode<N>,
     stream: u64,
     seat: Seat<N>,
 ) -> Result<usize, Refusal> {
@@ -70,7 +70,7 @@ fn counted_when_due<N: NodeName, R: Wait>(
 // Makes two calls, and holds no writer back any more.
 fn called_and_released<N: NodeName, R: Wait>(
     rt: &R,
-    node: &Node<N>,
+    node: &SharedNode<N>,
     seat: Seat<N>,
     first: Event,
     last: Event,
@@ -86,7 +86,7 @@ fn called_and_released<N: NodeName, R: Wait>(
 /// What a thread that waits for changes sees while another stops the node.
 pub(crate) fn waits_and_stops<N: NodeName + Send + Sync, R: Threads + Wait + Sync>(
     rt: &R,
-    node: &Node<N>,
+    node: &SharedNode<N>,
     seen: Marks,
 ) -> Option<Marks> {
     let (left, _) = join(rt, || node.wait_changed(rt, seen), || node.stop(rt));

@@ -10,7 +10,7 @@ use std::sync::Wait;
 use std::test::Fail;
 use std::thread::Threads;
 use xds_core::{Event, Marks};
-use xds_node::{Due, Line, Node, NodeName, Opened};
+use xds_node::{JournalLine, NodeName, Opened, SharedNode, WaitEnd};
 use xds_resource::Refusal;
 
 // A client that wants all clusters.
@@ -20,8 +20,8 @@ const WANTS_ALL: &[u8] = b"{\"node\":{\"id\":\"c\"},\"resourceNamesSubscribe\":[
 // What the waiting threads saw.
 #[derive(Clone, Copy)]
 struct Outcome {
-    first: Due,
-    last: Due,
+    first: WaitEnd,
+    last: WaitEnd,
     clusters: Option<u64>,
     stopped: bool,
 }
@@ -70,8 +70,8 @@ fn begun<A: Site, R: Wait>(
 fn both_waits<N: NodeName + Send + Sync, R: Threads + Wait + Sync>(
     rt: &R,
     alloc: Global,
-    node: &Node<N>,
-) -> Result<(Due, Due), Refusal> {
+    node: &SharedNode<N>,
+) -> Result<(WaitEnd, WaitEnd), Refusal> {
     let (seat, number, event) = begun(rt, alloc, node)?;
     let (first, (seat, answer)) = waits_and_calls(rt, node, number, seat, event);
     let (seat, event) = told(rt, node, seat, number, answer)?;
@@ -84,7 +84,7 @@ fn both_waits<N: NodeName + Send + Sync, R: Threads + Wait + Sync>(
 // How waits for changes end where something has changed, and while another thread stops the node.
 fn changes<N: NodeName + Send + Sync, R: Threads + Wait + Sync>(
     rt: &R,
-    node: &Node<N>,
+    node: &SharedNode<N>,
 ) -> (Option<u64>, bool) {
     let changed = node.wait_changed(rt, NOTHING);
     let clusters = changed.map(|marks: Marks| marks.cluster);
@@ -95,7 +95,7 @@ fn changes<N: NodeName + Send + Sync, R: Threads + Wait + Sync>(
 fn waited<N: NodeName + Send + Sync, R: Threads + Wait + Sync>(
     rt: &R,
     alloc: Global,
-    node: &Node<N>,
+    node: &SharedNode<N>,
 ) -> Result<Outcome, Refusal> {
     let (first, last) = both_waits(rt, alloc, node)?;
     let (clusters, stopped) = changes(rt, node);
@@ -111,7 +111,7 @@ fn waited<N: NodeName + Send + Sync, R: Threads + Wait + Sync>(
 fn counted<N: NodeName + Send + Sync, R: Threads + Wait + Sync>(
     rt: &R,
     alloc: Global,
-    node: &Node<N>,
+    node: &SharedNode<N>,
 ) -> Result<usize, Refusal> {
     let (seat, number, first) = begun(rt, alloc, node)?;
     let last = Event::put(alloc, "b")?;
@@ -123,12 +123,12 @@ fn counted<N: NodeName + Send + Sync, R: Threads + Wait + Sync>(
 fn holds<N: NodeName + Send + Sync, R: Threads + Wait + Sync>(
     rt: &R,
     alloc: Global,
-    opened: Opened<Line>,
+    opened: Opened<JournalLine>,
 ) -> Result<usize, Refusal>
     requires name { opened ≡ N.id }
     requires number { N.replica ≡ 1 }
 {
-    let node = Node::<N>::new(alloc, opened, 1)?;
+    let node = SharedNode::<N>::new(alloc, opened, 1)?;
     let count = counted(rt, alloc, &node);
     drop(node);
     count
@@ -137,7 +137,7 @@ fn holds<N: NodeName + Send + Sync, R: Threads + Wait + Sync>(
 // rule: wake-ups
 #[test]
 fn a_writer_that_is_held_back_finds_all_changes(rt: HostRuntime) -> Result<(), Fail> {
-    let opened = Opened::<Line>::new(rt.alloc())?;
+    let opened = Opened::<JournalLine>::new(rt.alloc())?;
     let count = holds::<Brand, _>(&rt, rt.alloc(), opened)?;
     assert!(rt; count == 2, "both clusters were put before it went on");
     Ok(())
@@ -146,12 +146,12 @@ fn a_writer_that_is_held_back_finds_all_changes(rt: HostRuntime) -> Result<(), F
 fn waits<N: NodeName + Send + Sync, R: Threads + Wait + Sync>(
     rt: &R,
     alloc: Global,
-    opened: Opened<Line>,
+    opened: Opened<JournalLine>,
 ) -> Result<Outcome, Refusal>
     requires name { opened ≡ N.id }
     requires number { N.replica ≡ 1 }
 {
-    let node = Node::<N>::new(alloc, opened, 1)?;
+    let node = SharedNode::<N>::new(alloc, opened, 1)?;
     let outcome = waited(rt, alloc, &node);
     drop(node);
     outcome
@@ -160,10 +160,10 @@ fn waits<N: NodeName + Send + Sync, R: Threads + Wait + Sync>(
 // rule: wake-ups
 #[test]
 fn waits_end_by_what_others_do(rt: HostRuntime) -> Result<(), Fail> {
-    let opened = Opened::<Line>::new(rt.alloc())?;
+    let opened = Opened::<JournalLine>::new(rt.alloc())?;
     let outcome = waits::<Brand, _>(&rt, rt.alloc(), opened)?;
-    assert!(rt; outcome.first == Due::Ready, "a cluster was put");
-    assert!(rt; outcome.last == Due::Closed, "the stream was closed");
+    assert!(rt; outcome.first == WaitEnd::Ready, "a cluster was put");
+    assert!(rt; outcome.last == WaitEnd::Closed, "the stream was closed");
     assert!(rt;
         outcome.clusters == Some(1),
         "one write of a cluster was made"

@@ -53,7 +53,7 @@ pub enum Next {
 }
 
 // What is known of the end, and what is still to be told.
-struct State {
+struct EndingState {
     // How many streams are still to end, where that was said.
     left: Option<u16>,
     end: Option<End>,
@@ -72,9 +72,9 @@ struct State {
 }
 
 // Written out: docs/PROVING.md, "Drops".
-impl Drop for State {
+impl Drop for EndingState {
     fn drop(self) {
-        let State {
+        let EndingState {
             left: _,
             end: _,
             notes: _,
@@ -88,19 +88,19 @@ impl Drop for State {
     }
 }
 
-impl State {
+impl EndingState {
     ghost use Rattle.std.specs.Prelude.{◌≡◌, ◌-◌, [], None, false};
     ghost use Rattle.std.specs.Option.{option_map};
     ghost use Rattle.xds_notes.specs.Endings.{first_end, counted_end, has_place, counts_missed, Adds, TakesNote, Announces, IsNext};
 
     // Nothing has happened, and so many streams are to end, where that is said.
-    fn new(alloc: Global, streams: Option<u16>) -> State
+    fn new(alloc: Global, streams: Option<u16>) -> EndingState
         ensures left { result.left ≡ streams }
         ensures end { result.end ≡ None }
         ensures told { (result.notes.items ≡ []) × (result.missed ≡ 0) }
         ensures rest { (result.is_closed ≡ false) × (result.is_told ≡ false) × (result.writing ≡ 0) × (result.is_held ≡ false) × (result.is_asked ≡ false) }
     {
-        State {
+        EndingState {
             left: streams,
             end: None,
             notes: VecDeque::new(alloc),
@@ -227,7 +227,7 @@ impl State {
 /// What threads tell of a server, up to its end.
 pub struct Ending {
     alloc: Global,
-    state: Mutex<State>,
+    state: Mutex<EndingState>,
     // Something was told, or the server ends.
     told: Condvar,
     // There is room for notes.
@@ -264,7 +264,7 @@ impl Ending {
     {
         Ending {
             alloc,
-            state: Mutex::new(State::new(alloc, streams)),
+            state: Mutex::new(EndingState::new(alloc, streams)),
             told: Condvar::new(),
             room: Condvar::new(),
             quiet: Condvar::new(),
@@ -371,7 +371,7 @@ impl Ending {
     }
 
     // The state once there is room for a note more, or the server ends.
-    fn room_in<'a, R: Wait>(&'a self, rt: &R) -> MutexGuard<'a, State> {
+    fn room_in<'a, R: Wait>(&'a self, rt: &R) -> MutexGuard<'a, EndingState> {
         let mut state = self.state.lock(rt);
         for _ in rt.forever() {
             if state.notes.len() < MOST_NOTES || state.end.is_some() {

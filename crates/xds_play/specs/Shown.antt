@@ -28,8 +28,8 @@ use Rattle.xds_world.specs.declared.event.ClientKind.{ClientKind}
 use Rattle.xds_world.specs.declared.event.ClientKind.TheVariants as kinds
 use Rattle.xds_world.specs.Worlds.{World, Peer}
 use Rattle.xds_world.specs.Claims.{is_settled}
-use Rattle.xds_world.specs.declared.peer.Status.{Status}
-use Rattle.xds_world.specs.declared.peer.Status.TheVariants.{Up, Down, Rest}
+use Rattle.xds_world.specs.declared.peer.PeerStatus.{PeerStatus}
+use Rattle.xds_world.specs.declared.peer.PeerStatus.TheVariants.{Up, Down, Rest}
 use Rattle.xds_world.specs.Statuses.{status_of}
 
 -- what is printed of a client or a replica that isn't there
@@ -55,7 +55,7 @@ abbrev pub view_text : ℕ → TypeName → List ℕ → ClientKind → Cache �
 view_text client t state kind view = view_head client t state (length (finmap.values view)) ++ holding_lines kind (finmap.values view)
 
 -- the word for whether a client polls, or is up, and settled of a type
-abbrev pub state_of : Status → Bool → List ℕ
+abbrev pub state_of : PeerStatus → Bool → List ℕ
 state_of Down settled = codes "down"
 state_of Rest settled = codes "rest"
 state_of Up settled = if settled then codes "settled" else codes "open"

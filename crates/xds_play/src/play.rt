@@ -15,7 +15,9 @@ use std::slice;
 use xds_cache::Marked;
 use xds_message::Batch;
 use xds_resource::{Refusal, TypeName};
-use xds_world::{Command, Status, Unsettled, World, WorldEvent, more, play, read_script, settle};
+use xds_world::{
+    Command, PeerStatus, Unsettled, World, WorldEvent, more, play, read_script, settle,
+};
 
 /// Why a script isn't played.
 #[derive(Clone, Copy, Debug, PartialEq, Eq)]
@@ -147,14 +149,14 @@ fn print_view(
 }
 
 // How a client stands to a type, in a word.
-fn state_word(status: Status, is_settled: bool) -> &'static str
+fn state_word(status: PeerStatus, is_settled: bool) -> &'static str
     ensures { result.now ≡ state_of status is_settled }
 {
     match status {
-        Status::Down => "down",
-        Status::Rest => "rest",
-        Status::Up if is_settled => "settled",
-        Status::Up => "open",
+        PeerStatus::Down => "down",
+        PeerStatus::Rest => "rest",
+        PeerStatus::Up if is_settled => "settled",
+        PeerStatus::Up => "open",
     }
 }
 

@@ -4,18 +4,18 @@ ghost use Rattle.xds_port.specs.Answers.{digit_of, shown_status, status_in};
 
 /// The answer to a request: its status, and its body.
 #[derive(Clone, Copy, Debug)]
-pub struct Answer<'a> {
+pub struct PortAnswer<'a> {
     pub status: u16,
     pub body: &'a str,
 }
 
 /// The answer that a text is, all of which has come: none where it is no answer of HTTP/1, and where its body isn't as long as it says.
-pub fn answer_in(text: &str) -> Option<Answer<'_>> {
+pub fn answer_in(text: &str) -> Option<PortAnswer<'_>> {
     let (head, body) = text.split_once("\r\n\r\n")?;
     let status = status_in(head.as_bytes())?;
     match length_in(head) {
         Some(length) if length != body.len() => None,
-        _ => Some(Answer { status, body }),
+        _ => Some(PortAnswer { status, body }),
     }
 }
 

@@ -8,7 +8,7 @@ pub mod head;
 pub mod target;
 pub mod verdict;
 
-pub use answer::{Answer, answer_in};
+pub use answer::{PortAnswer, answer_in};
 pub use complaint::Complaint;
 pub use deletions::delete_lines;
 pub use head::head_text;

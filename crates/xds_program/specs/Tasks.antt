@@ -16,11 +16,11 @@ use Rattle.std.specs.Str.{bytes_eq}
 use Rattle.std.specs.declared.net.socket_addr.SocketAddrV4.{SocketAddrV4}
 use Rattle.xds_resource.specs.declared.types.TypeName.{TypeName}
 use Rattle.xds_program.specs.declared.tasks.ServeTask.{ServeTask}
-use Rattle.xds_program.specs.declared.tasks.StreamVariant.{StreamVariant}
-use Rattle.xds_program.specs.declared.tasks.StreamVariant.TheVariants.{Sotw, Delta}
+use Rattle.xds_program.specs.declared.tasks.AskedVariant.{AskedVariant}
+use Rattle.xds_program.specs.declared.tasks.AskedVariant.TheVariants.{Sotw, Delta}
 
 -- the variant that the programs call by this word
-abbrev pub variant_of_word : List ℕ → Option StreamVariant
+abbrev pub variant_of_word : List ℕ → Option AskedVariant
 variant_of_word word =
     if bytes_eq word (codes "sotw") then Some Sotw else if bytes_eq word (codes "delta") then Some Delta else None
 
@@ -55,7 +55,7 @@ pub record Serves : Type 0 where
 -- `xds client`: a client that subscribes on a stream
 pub record Watch : Type 0 where
   pub addr : SocketAddrV4
-  pub variant : StreamVariant
+  pub variant : AskedVariant
   pub kind : TypeName
   pub responses : ℕ
   pub seconds : Option ℕ

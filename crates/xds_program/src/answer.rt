@@ -8,7 +8,7 @@ ghost use Rattle.xds_core.specs.Streams.{cluster_in};
 ghost use Rattle.xds_program.specs.Answers.{response_to, response_by, response_with, answer_text};
 ghost use Rattle.xds_program.specs.Faults.{IsAnswer, IsFault};
 
-use crate::gathering::{Gathered, LineFault, Looked, gather, gather_freeing};
+use crate::gathering::{GatheredInput, LineFault, Looked, gather, gather_freeing};
 use std::alloc::Global;
 use xds_core::Catalogues;
 use xds_interest::{ClusterText, Interest};
@@ -51,7 +51,11 @@ pub fn draft_answer(
 }
 
 // What is written for what was gathered.
-fn answer_gathered(alloc: Global, replica: u16, gathered: &Gathered) -> Result<Vec<u8>, LineFault>
+fn answer_gathered(
+    alloc: Global,
+    replica: u16,
+    gathered: &GatheredInput,
+) -> Result<Vec<u8>, LineFault>
     ensures answered { IfOk result (λ output. output.items
         ≡ answer_text (response_by replica (at gathered.now.catalogues) gathered.now.request)) }
     ensures refused { IfErr result (λ fault. (fault.line ≡ gathered.now.line) × (fault.refusal ≡ Refusal.OutOfMemory)) }
@@ -69,7 +73,7 @@ fn answer_gathered(alloc: Global, replica: u16, gathered: &Gathered) -> Result<V
 fn draft_gathered(
     alloc: Global,
     replica: u16,
-    gathered: &Gathered,
+    gathered: &GatheredInput,
 ) -> Result<Option<SotwDraft>, LineFault>
     ensures given { IfOk result (λ o. option_map message_of o
         ≡ response_by replica (at gathered.now.catalogues) gathered.now.request) }

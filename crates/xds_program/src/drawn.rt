@@ -4,7 +4,7 @@ ghost use Rattle.xds_program.specs.Drawings.{IsDrawnOrDone};
 ghost use Rattle.xds_program.specs.Judged.{verdict_text};
 ghost use Rattle.xds_program.specs.SoFar.{IsToldOf};
 
-use crate::judge::{Unjudged, Verdict};
+use crate::judge::{TraceVerdict, Unjudged};
 use crate::run::Ran;
 use std::alloc::Global;
 use std::marker::Model;
@@ -71,8 +71,8 @@ pub(crate) fn explained(
     is_wanted: bool,
     trace: &[u8],
     broken: Option<Broken>,
-    verdict: Verdict,
-) -> Result<Verdict, Unjudged>
+    verdict: TraceVerdict,
+) -> Result<TraceVerdict, Unjudged>
     ensures status { IfOk result (λ v. v.status ≡ verdict.status) }
     ensures text { IfOk result (λ v. string_bytes verdict.text ≡ verdict_text broken → IsToldOf is_wanted broken (string_bytes v.text)) }
     ensures refused { IfErr result (λ e. e ≡ Unjudged.OutOfMemory) }
@@ -90,7 +90,7 @@ pub(crate) fn explained(
 }
 
 // A verdict with a text behind it.
-fn with_behind(verdict: Verdict, behind: &str) -> Result<Verdict, Unjudged>
+fn with_behind(verdict: TraceVerdict, behind: &str) -> Result<TraceVerdict, Unjudged>
     ensures status { IfOk result (λ v. v.status ≡ verdict.status) }
     ensures text { IfOk result (λ v. string_bytes v.text ≡ string_bytes verdict.text ++ behind.now) }
     ensures refused { IfErr result (λ e. e ≡ Unjudged.OutOfMemory) }

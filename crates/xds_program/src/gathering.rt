@@ -69,7 +69,7 @@ impl Looked {
 
 /// What the lines of an input say: what their writes leave, and the request, which is on this line.
 #[derive(Drop)]
-pub(crate) struct Gathered {
+pub(crate) struct GatheredInput {
     pub(crate) catalogues: Catalogues,
     pub(crate) request: DiscoveryRequest,
     pub(crate) line: usize,
@@ -77,14 +77,14 @@ pub(crate) struct Gathered {
 
 // What the lines so far leave, and the number of the line that comes next.
 #[derive(Drop)]
-pub(crate) struct Reading {
+pub(crate) struct InputReading {
     pub(crate) catalogues: Catalogues,
     pub(crate) reader: WriteReader,
     pub(crate) line: usize,
 }
 
 /// Reads the lines of an input.
-pub(crate) fn gather(alloc: Global, input: &[u8]) -> Result<Gathered, LineFault>
+pub(crate) fn gather(alloc: Global, input: &[u8]) -> Result<GatheredInput, LineFault>
     ensures gathered { IfOk result (λ g. IsGathered input.now g.line (at g.catalogues) g.request) }
     ensures refused { IfErr result (λ fault. IsFault input.now fault.line fault.refusal) }
 {
@@ -102,7 +102,7 @@ pub(crate) fn gather_freeing(
     alloc: Global,
     input: Vec<u8>,
     looked: &mut Looked,
-) -> Result<Gathered, LineFault>
+) -> Result<GatheredInput, LineFault>
     ensures gathered { IfOk result (λ g. IsGathered input.items g.line (at g.catalogues) g.request) }
     ensures refused { IfErr result (λ fault. IsFault input.items fault.line fault.refusal) }
 {
@@ -113,10 +113,10 @@ pub(crate) fn gather_freeing(
 }
 
 // Nothing was read.
-pub(crate) fn begin(alloc: Global) -> Reading
+pub(crate) fn begin(alloc: Global) -> InputReading
     ensures { (result.line ≡ 1) × (result.catalogues ≡ each nothing_held) }
 {
-    Reading {
+    InputReading {
         catalogues: Catalogues::new(alloc),
         reader: WriteReader::new(alloc),
         line: 1,
@@ -126,10 +126,10 @@ pub(crate) fn begin(alloc: Global) -> Reading
 // Reads the rest of an input. Each half of what is left is let go of once it was read.
 fn gather_rest(
     alloc: Global,
-    reading: Reading,
+    reading: InputReading,
     looked: &mut Looked,
     rest: Vec<u8>,
-) -> Result<Gathered, LineFault>
+) -> Result<GatheredInput, LineFault>
     requires room { reading.line + length rest.items ≤ 18446744073709551615 }
     ensures gathered { IfOk result (λ g. WhereReadTo rest.items reading.line (at reading.catalogues) (λ input. IsGathered input g.line (at g.catalogues) g.request)) }
     ensures refused { IfErr result (λ fault. WhereReadTo rest.items reading.line (at reading.catalogues) (λ input. IsFault input fault.line fault.refusal)) }
@@ -163,7 +163,7 @@ fn without_front(bytes: Vec<u8>, taken: usize) -> Vec<u8>
 // Takes lines, one after another, until so many bytes are taken or no line feed is left, and answers how many bytes that was.
 fn take_lines(
     alloc: Global,
-    reading: &mut Reading,
+    reading: &mut InputReading,
     looked: &mut Looked,
     rest: &[u8],
     enough: usize,
@@ -199,15 +199,15 @@ fn take_lines(
 // Reads the last line.
 fn finish(
     alloc: Global,
-    reading: Reading,
+    reading: InputReading,
     looked: &mut Looked,
     last: &[u8],
-) -> Result<Gathered, LineFault>
+) -> Result<GatheredInput, LineFault>
     requires { pieces feed last.now ≡ last.now ∷ [] }
     ensures gathered { IfOk result (λ g. WhereReadTo last.now reading.line (at reading.catalogues) (λ input. IsGathered input g.line (at g.catalogues) g.request)) }
     ensures refused { IfErr result (λ fault. WhereReadTo last.now reading.line (at reading.catalogues) (λ input. IsFault input fault.line fault.refusal)) }
 {
-    let Reading {
+    let InputReading {
         catalogues,
         reader,
         line,
@@ -215,7 +215,7 @@ fn finish(
     drop(reader);
     looked.keep(last, true);
     match read_request(alloc, last) {
-        Ok(request) => Ok(Gathered {
+        Ok(request) => Ok(GatheredInput {
             catalogues,
             request,
             line,

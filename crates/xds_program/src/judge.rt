@@ -39,7 +39,7 @@ pub enum NoVerdict {
 
 /// What is told of a trace.
 #[derive(Debug)]
-pub struct Verdict {
+pub struct TraceVerdict {
     /// `ok`, or `broken` with the number of a line and the word of a rule. A line feed ends it.
     pub text: String,
     /// The status of the run that tells it: 0 where no rule is broken, and else 1.
@@ -47,15 +47,15 @@ pub struct Verdict {
 }
 
 // Written out: docs/PROVING.md, "Drops".
-impl Drop for Verdict {
+impl Drop for TraceVerdict {
     fn drop(self) {
-        let Verdict { text: _, status: _ } = self;
+        let TraceVerdict { text: _, status: _ } = self;
     }
 }
 
 /// Reads a trace and checks it. Told is the first line at which a rule is broken, and the least rule that is broken there; or
 /// that every line keeps the rules.
-pub fn judge(alloc: Global, bytes: &[u8]) -> Result<Verdict, Unjudged>
+pub fn judge(alloc: Global, bytes: &[u8]) -> Result<TraceVerdict, Unjudged>
     ensures judged { IfOk result (λ v. TellsVerdict bytes.now v.status (string_bytes v.text)) }
     ensures unjudged { IfErr result (λ e. IsUnjudged bytes.now e) }
 {
@@ -69,7 +69,7 @@ pub fn judge_input<I: Read>(
     alloc: Global,
     input: &mut Counted<I>,
     tail: &mut Tail,
-) -> Result<Verdict, NoVerdict>
+) -> Result<TraceVerdict, NoVerdict>
     ensures judged { IfOk result (λ v. IfSome (I.remaining input.old.inner) (λ bytes. TellsVerdict bytes v.status (string_bytes v.text))) }
     ensures unjudged { IfErr result (λ e. IsUnread (I.remaining input.old.inner) input.old.failed input.new.failed e) }
 {
@@ -196,12 +196,12 @@ fn why_not(fault: TraceFault) -> Unjudged
 }
 
 /// What is told of a verdict. Refused only by `OutOfMemory`.
-pub fn verdict_on(alloc: Global, broken: Option<Broken>) -> Result<Verdict, Unjudged>
+pub fn verdict_on(alloc: Global, broken: Option<Broken>) -> Result<TraceVerdict, Unjudged>
     ensures told { IfOk result (λ v. (string_bytes v.text ≡ verdict_text broken) × (v.status ≡ verdict_status broken)) }
     ensures refused { IfErr result (λ e. e ≡ Unjudged.OutOfMemory) }
 {
     match text_of(alloc, broken) {
-        Ok(text) => Ok(Verdict {
+        Ok(text) => Ok(TraceVerdict {
             text,
             status: if broken.is_some() { 1 } else { 0 },
         }),
@@ -210,7 +210,7 @@ pub fn verdict_on(alloc: Global, broken: Option<Broken>) -> Result<Verdict, Unju
 }
 
 // What is told of all bytes, where no more follow.
-fn verdict_of(alloc: Global, checker: &PiecewiseChecker) -> Result<Verdict, Unjudged>
+fn verdict_of(alloc: Global, checker: &PiecewiseChecker) -> Result<TraceVerdict, Unjudged>
     requires { (bytes : List ℕ) × HasRead bytes checker.now }
     ensures judged { IfOk result (λ v. (bytes : List ℕ) → HasRead bytes checker.now → TellsVerdict bytes v.status (string_bytes v.text)) }
     ensures unjudged { IfErr result (λ e. (bytes : List ℕ) → HasRead bytes checker.now → IsUnjudged bytes e) }

@@ -25,8 +25,8 @@ pub use gathering::{LineFault, Looked};
 pub use help::VERSION;
 pub use stamped::read_writes;
 pub use tasks::{
-    CheckTask, ClientTask, DeleteTask, GetTask, PlayTask, PollTask, PutTask, ServeTask, ServeWords,
-    StatusTask, StreamVariant, Task, WritesTask,
+    AskedVariant, CheckTask, ClientTask, DeleteTask, GetTask, PlayTask, PollTask, PutTask,
+    ServeTask, ServeWords, StatusTask, Task, WritesTask,
 };
 pub use words::task_of;
 pub use wrong_values::WrongValue;

@@ -9,8 +9,8 @@ ghost use Rattle.xds_program.specs.Words.{IsAddress, IsAddressAt, IsAddressGiven
 ghost use Rattle.xds_program.specs.Words.{are_apart, has_numbers, is_alone, is_given, is_outside, names_in, text_in};
 
 use crate::tasks::{
-    CheckTask, ClientTask, DeleteTask, GetTask, PlayTask, PollTask, PutTask, ServeTask, ServeWords,
-    StatusTask, StreamVariant, Task, WritesTask,
+    AskedVariant, CheckTask, ClientTask, DeleteTask, GetTask, PlayTask, PollTask, PutTask,
+    ServeTask, ServeWords, StatusTask, Task, WritesTask,
 };
 use clap::ArgMatches;
 use std::alloc::{AllocError, Global};
@@ -377,7 +377,7 @@ fn watch(alloc: Global, given: &ArgMatches) -> Result<Option<ClientTask>, AllocE
 }
 
 // What a client is asked for beside texts.
-fn watched(given: &ArgMatches) -> Option<(SocketAddrV4, StreamVariant, TypeName, u16)>
+fn watched(given: &ArgMatches) -> Option<(SocketAddrV4, AskedVariant, TypeName, u16)>
     ensures { Finds (λ p. IsAddress (rows_of (found_of given.now)) p.0
         × (option_and_then variant_of_word (first_of (codes "variant") (rows_of (found_of given.now))) ≡ Some p.1)
         × (option_and_then type_of_word (first_of (codes "type") (rows_of (found_of given.now))) ≡ Some p.2)
@@ -462,11 +462,11 @@ pub(crate) fn address_given(given: &ArgMatches, option: &str) -> Option<Option<S
     }
 }
 
-pub(crate) fn variant(given: &ArgMatches) -> Option<StreamVariant>
+pub(crate) fn variant(given: &ArgMatches) -> Option<AskedVariant>
     ensures { result ≡ option_and_then variant_of_word (first_of (codes "variant") (rows_of (found_of given.now))) }
 {
     match word(given, "variant") {
-        Some(word) => StreamVariant::from_word(word),
+        Some(word) => AskedVariant::from_word(word),
         None => None,
     }
 }

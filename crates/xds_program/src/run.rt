@@ -12,7 +12,7 @@ use crate::answer::draft_answer;
 use crate::drawn::{Drawing, draw, drawn_or_done, explained, put_picture};
 use crate::gathering::{LineFault, Looked};
 use crate::judge::{
-    NoVerdict, SoFar, Unjudged, Verdict, judge_input, judge_so_far, verdict_on, whole_lines,
+    NoVerdict, SoFar, TraceVerdict, Unjudged, judge_input, judge_so_far, verdict_on, whole_lines,
 };
 use crate::output::write_answer;
 use crate::reasons::{
@@ -184,7 +184,7 @@ fn run_check<I: Read, O: Write, E: Write>(
     } = task;
     let mut cause = String::new(alloc);
     let mut svg = None;
-    let wanted = Wanted {
+    let wanted = WantedOfTrace {
         so_far,
         explain,
         draws: picture.is_some(),
@@ -198,7 +198,7 @@ fn run_check<I: Read, O: Write, E: Write>(
 // Checks a trace: as it comes, or, where it may be cut short or is explained or drawn, one that is read whole.
 fn check_as<I: Read, O: Write, E: Write>(
     alloc: Global,
-    wanted: Wanted,
+    wanted: WantedOfTrace,
     svg: &mut Option<String>,
     cause: &mut String,
     input: &mut Counted<I>,
@@ -218,7 +218,7 @@ fn check_as<I: Read, O: Write, E: Write>(
 }
 
 // Whether a trace of which this is wanted is read whole.
-fn is_read_whole(wanted: Wanted) -> bool
+fn is_read_whole(wanted: WantedOfTrace) -> bool
     ensures { result ≡ (wanted.so_far || wanted.explain || wanted.draws) }
 {
     wanted.so_far || wanted.explain || wanted.draws
@@ -226,7 +226,7 @@ fn is_read_whole(wanted: Wanted) -> bool
 
 // What is wanted of a trace.
 #[derive(Clone, Copy, Debug, PartialEq, Eq)]
-pub(crate) struct Wanted {
+pub(crate) struct WantedOfTrace {
     so_far: bool,
     explain: bool,
     draws: bool,
@@ -391,7 +391,7 @@ pub fn check<I: Read, O: Write, E: Write>(
 /// drawn.
 fn check_whole<I: Read, O: Write, E: Write>(
     alloc: Global,
-    wanted: Wanted,
+    wanted: WantedOfTrace,
     svg: &mut Option<String>,
     cause: &mut String,
     input: &mut Counted<I>,
@@ -430,11 +430,11 @@ fn check_whole<I: Read, O: Write, E: Write>(
 // and as the cause which of its lines isn't whole.
 fn told_of(
     alloc: Global,
-    wanted: Wanted,
+    wanted: WantedOfTrace,
     svg: &mut Option<String>,
     cause: &mut String,
     bytes: &[u8],
-) -> Result<Verdict, Unjudged>
+) -> Result<TraceVerdict, Unjudged>
     ensures told { IfOk result (λ v. TellsSoFar wanted.so_far wanted.explain bytes.now (string_bytes cause.new) v.status (string_bytes v.text)) }
     ensures untold { IfErr result (λ e. IsUnjudged bytes.now e) }
 {
@@ -456,12 +456,12 @@ fn refused_line(so_far: bool, cut: Option<usize>) -> Option<usize>
 // What is told of a trace of which this is known.
 fn told_as(
     alloc: Global,
-    wanted: Wanted,
+    wanted: WantedOfTrace,
     svg: &mut Option<String>,
     cause: &mut String,
     bytes: &[u8],
     known: SoFar,
-) -> Result<Verdict, Unjudged>
+) -> Result<TraceVerdict, Unjudged>
     ensures told { IfOk result (λ v. IsToldOf wanted.explain known.broken (string_bytes v.text) × (v.status ≡ verdict_status known.broken)
         × (string_bytes cause.new ≡ cut_text known.cut)) }
     ensures untold { IfErr result (λ e. e ≡ Unjudged.OutOfMemory) }

@@ -4,7 +4,7 @@ ghost use Rattle.xds_resource.specs.PerType.{at};
 ghost use Rattle.xds_program.specs.Gathered.{IsReadTo};
 ghost use Rattle.xds_program.specs.Stamped.{AreLeft, IsWriteFault};
 
-use crate::gathering::{LineFault, Reading, begin, take_write};
+use crate::gathering::{InputReading, LineFault, begin, take_write};
 use std::alloc::Global;
 use xds_core::Catalogues;
 use xds_world::lines::{split_line, without_last_feed};
@@ -50,7 +50,7 @@ fn read_lines(alloc: Global, input: &[u8]) -> Result<Catalogues, LineFault>
         let line = reading.line;
         return Err(LineFault { line, refusal });
     }
-    let Reading {
+    let InputReading {
         catalogues,
         reader,
         line: _,

@@ -152,24 +152,24 @@ impl Model for ServeWords {
 
 /// How a client asks on a stream: in which of the protocol's two variants.
 #[derive(Clone, Copy, Debug, PartialEq, Eq)]
-pub enum StreamVariant {
+pub enum AskedVariant {
     /// State of the world.
     Sotw,
     /// Incremental.
     Delta,
 }
 
-impl StreamVariant {
+impl AskedVariant {
     ghost use Rattle.std.specs.Prelude.{◌≡◌};
     ghost use Rattle.xds_program.specs.Tasks.{variant_of_word};
 
     /// The variant whose word this is, if there is one.
-    pub fn from_word(word: &str) -> Option<StreamVariant>
+    pub fn from_word(word: &str) -> Option<AskedVariant>
         ensures { result ≡ variant_of_word word.now }
     {
         match word {
-            "sotw" => Some(StreamVariant::Sotw),
-            "delta" => Some(StreamVariant::Delta),
+            "sotw" => Some(AskedVariant::Sotw),
+            "delta" => Some(AskedVariant::Delta),
             _ => None,
         }
     }
@@ -181,7 +181,7 @@ pub struct ClientTask {
     /// Where a replica serves streams.
     pub addr: SocketAddrV4,
     /// How it asks.
-    pub variant: StreamVariant,
+    pub variant: AskedVariant,
     /// The type of the resources.
     pub kind: TypeName,
     /// After how many responses it ends, from 1.

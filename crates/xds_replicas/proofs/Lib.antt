@@ -1,3 +1,3 @@
 mod Lining
-mod Living
+mod LiveWrites
 mod Making

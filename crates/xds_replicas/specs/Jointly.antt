@@ -26,7 +26,7 @@ use Rattle.xds_changes.specs.Together.{made_line}
 use Rattle.xds_checker.specs.Checked.{told_line}
 use Rattle.xds_replicas.specs.Lines.{unstored_line}
 use Rattle.xds_replicas.specs.declared.joint.Joint.{Joint}
-use Rattle.xds_replicas.specs.declared.joint.Telling.{Telling}
+use Rattle.xds_replicas.specs.declared.joint.JointTelling.{JointTelling}
 
 -- a line that says something: its number, and the place of its replica, from 0, or why it is refused
 abbrev pub Said : Type 0
@@ -107,7 +107,7 @@ abbrev pub told_of : List (ℕ × List ℕ) → List (List Made) → Bool → Li
 told_of whys made are_stored lines = all_told whys made are_stored lines (none_told made) (record { good = 0; bad = 0; text = [] })
 
 -- what the program has told
-abbrev pub told_so_far : Telling → Told
+abbrev pub told_so_far : JointTelling → Told
 told_so_far t = record { good = t.good; bad = t.bad; text = string_bytes t.text }
 
 -- what is told of the lines of a body

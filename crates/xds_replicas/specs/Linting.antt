@@ -7,7 +7,7 @@
 --     looked_event    what is looked at of what happens: a put without its groups, or a deletion
 --     applied         these, once this happens
 --     all_applied     these, once all this happens
---     Lines           lines, each once, in their order
+--     LineSet         lines, each once, in their order
 --     leads_line      the line of a reference that leads nowhere
 --     marked          what stands at a line that is there
 --     lines_of        the lines of all references that lead nowhere
@@ -70,8 +70,8 @@ all_applied live [] = live
 all_applied live (e ∷ es) = all_applied (applied live e) es
 
 -- lines, each once, in their order
-abbrev pub Lines : Type 0
-Lines = set.FinSet text_cmp
+abbrev pub LineSet : Type 0
+LineSet = set.FinSet text_cmp
 
 -- the line of a reference that leads nowhere
 abbrev pub leads_line : Leads → List ℕ
@@ -82,11 +82,11 @@ abbrev pub marked : List ℕ → Option (Unit {0})
 marked line = Some tt
 
 -- the lines of all references that lead nowhere
-abbrev pub lines_of : Live → Lines
+abbrev pub lines_of : Live → LineSet
 lines_of live = put_each marked finmap.empty (map leads_line (dangling live))
 
 -- those of them that aren't among others, with their ends
-abbrev pub new_lines : Lines → List (List ℕ × Unit {0}) → List ℕ
+abbrev pub new_lines : LineSet → List (List ℕ × Unit {0}) → List ℕ
 new_lines before [] = []
 new_lines before (e ∷ es) = if is_some (finmap.get before e.0) then new_lines before es else e.0 ++ (codes "\n" ++ new_lines before es)
 

@@ -12,7 +12,7 @@ use Rattle.xds_catalogue.specs.Holdings.{nothing_held}
 use Rattle.xds_core.specs.Events.{Event, Put, Delete}
 use Rattle.xds_core.specs.Stores.{Batch, Store, all_entries, if_done, merging}
 use Rattle.xds_sources.specs.Differences.{Edit, puts, deletes, difference}
-use Rattle.xds_sources.specs.declared.reading.Wanted.{Wanted}
+use Rattle.xds_sources.specs.declared.reading.FileResource.{FileResource}
 use Rattle.xds_changes.specs.Loads.{made_by, then_loaded}
 use Rattle.xds_replicas.specs.Linting.{live_in}
 
@@ -34,5 +34,5 @@ begun world = if_done (λ p. p.1) (merging (each nothing_held) world)
 -- rule: loaded-first
 -- All that is held once what a folder says is made over a batch, or why it isn't. The changes are those by which exactly what the folder
 -- says is live.
-abbrev pub made_over : ℕ → Batch → finmap.FinMap text_cmp Wanted → Result Batch Refusal
+abbrev pub made_over : ℕ → Batch → finmap.FinMap text_cmp FileResource → Result Batch Refusal
 made_over writer world wanted = if_done all_entries (then_loaded (λ s. all_made writer s (difference (live_in world) wanted)) (begun world))

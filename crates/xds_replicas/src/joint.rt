@@ -11,9 +11,9 @@ use std::sync::Wait;
 use std::time::{Clock, Duration};
 use xds_causes::Cause;
 use xds_changes::change::Change;
-use xds_changes::kept::Said;
 use xds_changes::made::{Made, changes_status, made_line};
 use xds_changes::order::Answers;
+use xds_changes::said_lines::SaidLine;
 use xds_checker::checked_changes::{Whys, told_line};
 use xds_core::Event;
 use xds_machine::deadline::Deadline;
@@ -65,7 +65,7 @@ impl Drop for Joint {
 }
 
 /// What is to be done next for a body of changes.
-pub enum Step {
+pub enum ChangeStep {
     /// To hand these changes to a replica, by its place from 0.
     Hand(usize, Vec<Change>),
     /// To wait.
@@ -75,16 +75,16 @@ pub enum Step {
 }
 
 // How many changes of a body were made, or would be, how many weren't, and the lines of them.
-struct Telling {
+struct JointTelling {
     good: u64,
     bad: u64,
     text: String,
 }
 
 // Written out: docs/PROVING.md, "Drops".
-impl Drop for Telling {
+impl Drop for JointTelling {
     fn drop(self) {
-        let Telling {
+        let JointTelling {
             good: _,
             bad: _,
             text: _,
@@ -92,14 +92,14 @@ impl Drop for Telling {
     }
 }
 
-impl Telling {
+impl JointTelling {
     ghost use Rattle.std.specs.Prelude.{◌≡◌, ◌++◌, [], string_bytes, IfOk, OnOk};
     ghost use Rattle.xds_replicas.specs.Jointly.{told_more, told_so_far};
 
-    fn new(alloc: Global) -> Telling
+    fn new(alloc: Global) -> JointTelling
         ensures { told_so_far result ≡ record { good = 0; bad = 0; text = [] } }
     {
-        Telling {
+        JointTelling {
             good: 0,
             bad: 0,
             text: String::new(alloc),
@@ -123,7 +123,7 @@ impl Telling {
     fn into_text(self, behind: &str) -> Result<String, Refusal>
         ensures { IfOk result (λ t. string_bytes t ≡ string_bytes self.text ++ behind.now) }
     {
-        let Telling {
+        let JointTelling {
             good: _,
             bad: _,
             text,
@@ -161,8 +161,8 @@ impl Joint {
     }
 
     /// Takes what a line says.
-    pub fn take(&mut self, alloc: Global, said: Said) -> Result<(), Refusal> {
-        let Said { line, what } = said;
+    pub fn take(&mut self, alloc: Global, said: SaidLine) -> Result<(), Refusal> {
+        let SaidLine { line, what } = said;
         match what {
             Ok(None) => Ok(()),
             Ok(Some(change)) => {
@@ -246,14 +246,14 @@ impl Joint {
         rt: &R,
         alloc: Global,
         pause: Duration,
-    ) -> Result<Step, Refusal> {
+    ) -> Result<ChangeStep, Refusal> {
         if let Some((from, deadline)) = mem::replace(&mut self.waiting, None) {
             match from.recv_timeout(rt, pause) {
                 Ok(Ok(made)) => self.answered(made)?,
                 Ok(Err(refusal)) => self.all_are(alloc, refused(refusal))?,
                 Err(RecvTimeoutError::Timeout) if !deadline.rest(rt).is_zero() => {
                     self.waiting = Some((from, deadline));
-                    return Ok(Step::Wait);
+                    return Ok(ChangeStep::Wait);
                 }
                 Err(_) => self.all_are(alloc, refused(Refusal::Device))?,
             }
@@ -262,24 +262,24 @@ impl Joint {
     }
 
     // The next replica's changes, if there are such.
-    fn next(&mut self, alloc: Global) -> Result<Step, Refusal> {
+    fn next(&mut self, alloc: Global) -> Result<ChangeStep, Refusal> {
         let place = self.made.len();
         let Some(changes) = self.changes.get_mut(place) else {
-            return Ok(Step::Done);
+            return Ok(ChangeStep::Done);
         };
         let changes = mem::replace(changes, Vec::new(alloc));
         self.counts.push(changes.len())?;
         if changes.is_empty() {
             drop(changes);
             self.answered(Vec::new(alloc))?;
-            return Ok(Step::Wait);
+            return Ok(ChangeStep::Wait);
         }
         if !self.is_tried && self.has_fault() {
             drop(changes);
             self.all_are(alloc, Made::Left)?;
-            return Ok(Step::Wait);
+            return Ok(ChangeStep::Wait);
         }
-        Ok(Step::Hand(place, changes))
+        Ok(ChangeStep::Hand(place, changes))
     }
 
     /// The answer of the replica that was handed its changes comes here, until then.
@@ -333,10 +333,10 @@ impl Joint {
     }
 
     // What is told of all lines.
-    fn told(&self, alloc: Global, are_stored: bool) -> Result<Telling, Refusal>
+    fn told(&self, alloc: Global, are_stored: bool) -> Result<JointTelling, Refusal>
         ensures { IfOk result (λ t. told_so_far t ≡ told_in self.now are_stored) }
     {
-        let mut telling = Telling::new(alloc);
+        let mut telling = JointTelling::new(alloc);
         let mut places = zeros(alloc, &self.made)?;
         for (line, said) in &self.lines {
             self.tell(alloc, &mut telling, &mut places, *line, *said, are_stored)?;
@@ -348,7 +348,7 @@ impl Joint {
     fn tell(
         &self,
         alloc: Global,
-        telling: &mut Telling,
+        telling: &mut JointTelling,
         places: &mut Vec<usize>,
         line: u64,
         said: Result<usize, Fault>,

@@ -40,10 +40,10 @@ pub fn dangling_line(alloc: Global, one: &Dangling) -> Result<String, Refusal>
 }
 
 // Lines, each once, in their order.
-type Lines = NameMap<()>;
+type LineSet = NameMap<()>;
 
 // The lines of all references that lead nowhere.
-fn lines_of(alloc: Global, live: &NameMap<AnyWrite>) -> Result<Lines, Refusal>
+fn lines_of(alloc: Global, live: &NameMap<AnyWrite>) -> Result<LineSet, Refusal>
     ensures { IfOk result (λ m. m ≡ lines_of live.now) }
 {
     let found = dangling_in(alloc, live)?;
@@ -54,7 +54,7 @@ fn lines_of(alloc: Global, live: &NameMap<AnyWrite>) -> Result<Lines, Refusal>
     Ok(lines)
 }
 
-fn add(lines: &mut Lines, line: String) -> Result<(), Refusal>
+fn add(lines: &mut LineSet, line: String) -> Result<(), Refusal>
     ensures { OnOk result (lines.new ≡ put_some lines.old (string_bytes line) (marked (string_bytes line))) }
 {
     lines.insert(line, ())?;
@@ -87,7 +87,7 @@ fn apply_all(
 }
 
 // The lines that weren't there before, with their ends.
-fn new_lines(alloc: Global, before: &Lines, after: &Lines) -> Result<String, Refusal>
+fn new_lines(alloc: Global, before: &LineSet, after: &LineSet) -> Result<String, Refusal>
     ensures { IfOk result (λ t. string_bytes t ≡ new_lines before.now (finmap.entries after.now)) }
 {
     let mut text = String::new(alloc);
@@ -162,18 +162,18 @@ pub fn start_linting<R: Runtime>(
 }
 
 // What is known of the references that lead nowhere.
-struct Known {
+struct KnownReferences {
     // Those that were told, and those that are told if they still lead nowhere at the next look.
-    told: Lines,
-    waiting: Lines,
+    told: LineSet,
+    waiting: LineSet,
     // The counts of changes at the last look, if there was one.
     marks: Option<Marks>,
 }
 
 // Written out: docs/PROVING.md, "Drops".
-impl Drop for Known {
+impl Drop for KnownReferences {
     fn drop(self) {
-        let Known {
+        let KnownReferences {
             told: _,
             waiting: _,
             marks: _,
@@ -188,7 +188,7 @@ fn follow_references<R: Runtime>(
     orders: &Sender<Order>,
     ending: &Ending,
 ) {
-    let mut known = Known {
+    let mut known = KnownReferences {
         told: NameMap::new(alloc),
         waiting: NameMap::new(alloc),
         marks: None,
@@ -211,7 +211,7 @@ fn follow_references<R: Runtime>(
 }
 
 // Whether there are any lines.
-fn are_any(lines: &Lines) -> bool {
+fn are_any(lines: &LineSet) -> bool {
     lines.iter().len() > 0
 }
 
@@ -219,7 +219,7 @@ fn are_any(lines: &Lines) -> bool {
 fn look<R: Wait>(
     rt: &R,
     alloc: Global,
-    known: &mut Known,
+    known: &mut KnownReferences,
     orders: &Sender<Order>,
     ending: &Ending,
 ) -> Result<(), Refusal> {

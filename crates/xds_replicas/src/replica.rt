@@ -27,14 +27,14 @@ use xds_node::{Host, Parcel, Receipt, called, exchange_in, exchange_out};
 use xds_notes::ending::DRAIN_SECONDS;
 use xds_notes::{End, Fault};
 use xds_resource::{Refusal, Stamp};
-use xds_stats::{Look, Maker, look_in, millis_now};
+use xds_stats::{Maker, ReplicaSizes, look_in, millis_now};
 use xds_streams::{NoGate, serve_streams};
 
 /// Ends of the channels by which a replica tells another what changed: for what it tells, and for what becomes of it.
 pub type Sends = (Outgoing<Parcel>, Incoming<Receipt>);
 
 /// Ends of the channels by which a replica learns from another what changed.
-pub type Takes = (Incoming<Parcel>, Outgoing<Receipt>);
+pub type TakingEnds = (Incoming<Parcel>, Outgoing<Receipt>);
 
 /// The sockets of a replica, and what it merges before it answers anybody at them, if there is such.
 #[derive(Drop)]
@@ -52,7 +52,7 @@ pub struct SocketsOver<S> {
 pub type Sockets = SocketsOver<Storage>;
 
 /// What a replica's thread is started with, where what changes is stored so.
-pub type ReplicaOver<S> = Bound<SocketsOver<S>, Receiver<Order>, Sends, Takes>;
+pub type ReplicaOver<S> = Bound<SocketsOver<S>, Receiver<Order>, Sends, TakingEnds>;
 
 /// The same, where it is stored in a file.
 pub type Replica = ReplicaOver<Storage>;
@@ -283,7 +283,7 @@ fn start_exchange<R, A>(
     alloc: Global,
     node: &Arc<A>,
     sends: Vec<Sends>,
-    takes: Vec<Takes>,
+    takes: Vec<TakingEnds>,
 ) -> Result<(), Refusal>
 where
     R: Runtime,
@@ -344,7 +344,7 @@ fn send_all<R: Wait, A: Served>(rt: &R, alloc: Global, node: &A, seat: A::Seat, 
 }
 
 // A thread that takes what changed at another replica.
-fn start_taking<R, A>(rt: &R, alloc: Global, node: &Arc<A>, ends: Takes) -> Result<(), Refusal>
+fn start_taking<R, A>(rt: &R, alloc: Global, node: &Arc<A>, ends: TakingEnds) -> Result<(), Refusal>
 where
     R: Runtime,
     A: Shared,
@@ -355,7 +355,7 @@ where
     })
 }
 
-fn take_all<R: Wait, A: Served>(rt: &R, alloc: Global, node: &A, seat: A::Seat, ends: Takes) {
+fn take_all<R: Wait, A: Served>(rt: &R, alloc: Global, node: &A, seat: A::Seat, ends: TakingEnds) {
     let mut seat = seat;
     let (mut parcels, mut receipts) = ends;
     let _dropped = exchange_in(
@@ -592,7 +592,7 @@ fn look<R: Wait, A: Served>(
     node: &A,
     seat: &mut A::Seat,
     number: u16,
-) -> Result<Look, Refusal> {
+) -> Result<ReplicaSizes, Refusal> {
     let answer = called(rt, node, &NoGate, seat, Event::Since(NOTHING));
     let look = match reply_in(&answer) {
         Ok(reply) => look_in(alloc, number, reply),

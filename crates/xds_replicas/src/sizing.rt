@@ -11,7 +11,7 @@ use xds_machine::threads::{share, start_worker};
 use xds_message::Batch;
 use xds_notes::Ending;
 use xds_resource::{Refusal, ResourceType, TypeName, Write};
-use xds_stats::{Ceiling, LogEvent, Look, millis_now};
+use xds_stats::{Ceiling, LogEvent, ReplicaSizes, millis_now};
 
 // After how many seconds it is looked again whether responses have become long.
 const LOOK_SECONDS: u64 = 1;
@@ -80,7 +80,7 @@ impl Ceilings {
 }
 
 // What is known of a replica's responses.
-struct Known {
+struct KnownSizes {
     // Its place among those of the server, from 1.
     replica: u16,
     ceilings: Ceilings,
@@ -93,9 +93,9 @@ struct Known {
 }
 
 // Written out: docs/PROVING.md, "Drops".
-impl Drop for Known {
+impl Drop for KnownSizes {
     fn drop(self) {
-        let Known {
+        let KnownSizes {
             replica: _,
             ceilings: _,
             marks: _,
@@ -105,7 +105,7 @@ impl Drop for Known {
     }
 }
 
-impl Known {
+impl KnownSizes {
     // Whether the responses are to be counted.
     fn is_due(&self) -> bool {
         self.ceilings.may_tell() || (self.is_changed && self.rest == 0 && self.ceilings.are_long())
@@ -169,7 +169,7 @@ fn follow_sizes<R: Runtime>(
 fn look_at_all<R: Wait + Clock>(
     rt: &R,
     alloc: Global,
-    all: &mut Vec<Known>,
+    all: &mut Vec<KnownSizes>,
     moves: &Moves,
     senders: &[Sender<Order>],
     ending: &Ending,
@@ -184,12 +184,12 @@ fn look_at_all<R: Wait + Clock>(
 }
 
 // Nothing is known of so many replicas.
-fn nothing_known(alloc: Global, replicas: usize) -> Result<Vec<Known>, Refusal> {
+fn nothing_known(alloc: Global, replicas: usize) -> Result<Vec<KnownSizes>, Refusal> {
     let mut all = Vec::new(alloc);
     let mut replica = 0u16;
     for _ in 0..replicas {
         replica = replica.saturating_add(1);
-        all.push(Known {
+        all.push(KnownSizes {
             replica,
             ceilings: Ceilings::new(),
             marks: None,
@@ -204,7 +204,7 @@ fn nothing_known(alloc: Global, replicas: usize) -> Result<Vec<Known>, Refusal> 
 fn look<R: Wait + Clock>(
     rt: &R,
     alloc: Global,
-    known: &mut Known,
+    known: &mut KnownSizes,
     moves: &Moves,
     orders: &Sender<Order>,
     ending: &Ending,
@@ -245,7 +245,7 @@ fn since<R: Wait>(
 fn count<R: Wait + Clock>(
     rt: &R,
     alloc: Global,
-    known: &mut Known,
+    known: &mut KnownSizes,
     orders: &Sender<Order>,
     ending: &Ending,
 ) -> Result<(), Refusal> {
@@ -274,7 +274,11 @@ fn count<R: Wait + Clock>(
 }
 
 // How much a replica holds.
-fn held_at<R: Wait>(rt: &R, alloc: Global, orders: &Sender<Order>) -> Result<Look, Refusal> {
+fn held_at<R: Wait>(
+    rt: &R,
+    alloc: Global,
+    orders: &Sender<Order>,
+) -> Result<ReplicaSizes, Refusal> {
     let (to, from) = unbounded(alloc)?;
     let _ = orders.send(rt, Order::Look(to));
     match from.recv(rt) {
@@ -284,7 +288,7 @@ fn held_at<R: Wait>(rt: &R, alloc: Global, orders: &Sender<Order>) -> Result<Loo
 }
 
 // The counts of changes of what is held.
-fn marks_in(look: &Look) -> Marks {
+fn marks_in(look: &ReplicaSizes) -> Marks {
     Marks {
         cluster: look.cluster.changes,
         endpoint: look.endpoint.changes,

@@ -22,10 +22,10 @@ use xds_machine::folder::{ReadsFolders, files_in, sight_in};
 use xds_machine::machine::Runtime;
 use xds_machine::threads::{share, start_worker};
 use xds_message::Batch;
-use xds_notes::{Ending, Fault as Untaken, Note};
+use xds_notes::{Ending, Fault, Note};
 use xds_resource::{AnyWrite, Groups, NameMap, Refusal, TypeName};
 use xds_sources::{
-    Fault, SourceChange, SourceFile, Wanted, Wrong, difference, key_of, read_sources,
+    FileResource, SourceChange, SourceFault, SourceFile, Wrong, difference, key_of, read_sources,
 };
 
 // After how many seconds it is looked again whether the folder has changed.
@@ -34,10 +34,10 @@ const LOOK_SECONDS: u64 = 1;
 /// A folder that resources come from, as far as it is read and what it says is made.
 pub struct Source {
     path: String,
-    state: Mutex<State>,
+    state: Mutex<SourcingState>,
 }
 
-struct State {
+struct SourcingState {
     // The resources that came from it, by type and name.
     came: BTreeSet<String>,
     // How its files lay when they were read last, and when they were looked at last.
@@ -52,9 +52,9 @@ struct State {
 }
 
 // Written out: docs/PROVING.md, "Drops".
-impl Drop for State {
+impl Drop for SourcingState {
     fn drop(self) {
-        let State {
+        let SourcingState {
             came: _,
             read: _,
             seen: _,
@@ -75,8 +75,8 @@ impl Drop for Source {
 
 /// What a folder says: its resources by type and name, and how its files lay then.
 #[derive(Drop)]
-pub struct Said {
-    wanted: NameMap<Wanted>,
+pub struct FolderContents {
+    wanted: NameMap<FileResource>,
     sight: String,
 }
 
@@ -85,7 +85,7 @@ pub fn said_by<R: ReadsFolders>(
     rt: &R,
     alloc: Global,
     path: &str,
-) -> Result<Result<Said, String>, Refusal> {
+) -> Result<Result<FolderContents, String>, Refusal> {
     let sight = match sight_in(rt, alloc, path) {
         Ok(sight) => sight,
         Err(unread) => return Ok(Err(unread.text(alloc, path)?)),
@@ -98,7 +98,7 @@ pub fn said_by<R: ReadsFolders>(
         }
     };
     match read_sources(alloc, files.as_slice()) {
-        Ok(wanted) => Ok(Ok(Said { wanted, sight })),
+        Ok(wanted) => Ok(Ok(FolderContents { wanted, sight })),
         Err(fault) => {
             drop(sight);
             Ok(Err(fault_text(alloc, path, files.as_slice(), &fault)?))
@@ -111,7 +111,7 @@ fn fault_text(
     alloc: Global,
     path: &str,
     files: &[SourceFile],
-    fault: &Fault,
+    fault: &SourceFault,
 ) -> Result<String, Refusal> {
     let name = name_at(files, fault.file);
     let place = fault.place.text(alloc)?;
@@ -173,7 +173,12 @@ fn add_write(alloc: Global, live: &mut NameMap<AnyWrite>, write: AnyWrite) -> Re
 // rule: loaded-first
 /// All that is held once what a folder says is made over this, by the replica of this number: exactly the resources of the folder are live.
 #[tactic(auto, using(crate::proofs::Making::made_so))]
-pub fn made_over(alloc: Global, world: Batch, said: &Said, writer: u16) -> Result<Batch, Refusal>
+pub fn made_over(
+    alloc: Global,
+    world: Batch,
+    said: &FolderContents,
+    writer: u16,
+) -> Result<Batch, Refusal>
     ensures { IfOk result (λ b. made_over (max writer 1) world said.now.wanted ≡ Ok b) }
 {
     let live = match live_in(alloc, &world) {
@@ -224,14 +229,14 @@ fn make(held: &mut Catalogues, writer: u16, change: SourceChange) -> Result<(), 
 
 impl Source {
     /// The folder at this path, of which what it says is made.
-    pub fn new(alloc: Global, path: &str, said: Said) -> Result<Source, Refusal> {
-        let Said { wanted, sight } = said;
+    pub fn new(alloc: Global, path: &str, said: FolderContents) -> Result<Source, Refusal> {
+        let FolderContents { wanted, sight } = said;
         let came = keys_of(alloc, &wanted);
         let resources = count_of(&wanted);
         drop(wanted);
         Ok(Source {
             path: String::from_str(alloc, path)?,
-            state: Mutex::new(State {
+            state: Mutex::new(SourcingState {
                 came: came?,
                 seen: String::from_str(alloc, sight.as_str())?,
                 read: sight,
@@ -319,7 +324,7 @@ impl Source {
         &self,
         rt: &R,
         alloc: Global,
-        said: Said,
+        said: FolderContents,
         orders: &Sender<Order>,
         ending: &Ending,
     ) -> Result<(), Refusal> {
@@ -363,7 +368,7 @@ impl Source {
         &self,
         rt: &R,
         alloc: Global,
-        said: &Said,
+        said: &FolderContents,
         orders: &Sender<Order>,
     ) -> Result<Vec<Change>, Refusal> {
         let held = entries_of(rt, alloc, orders)?;
@@ -382,7 +387,7 @@ impl Source {
         rt: &R,
         alloc: Global,
         live: &mut NameMap<AnyWrite>,
-        wanted: &NameMap<Wanted>,
+        wanted: &NameMap<FileResource>,
     ) -> Result<(), Refusal> {
         let mut others = Vec::new(alloc);
         let state = self.state.lock(rt);
@@ -403,11 +408,11 @@ impl Source {
         &self,
         rt: &R,
         alloc: Global,
-        said: Said,
+        said: FolderContents,
         is_any: bool,
         ending: &Ending,
     ) -> Result<(), Refusal> {
-        let Said { wanted, sight } = said;
+        let FolderContents { wanted, sight } = said;
         let came = keys_of(alloc, &wanted);
         let resources = count_of(&wanted);
         drop(wanted);
@@ -488,7 +493,7 @@ fn kept_text(alloc: Global, text: String) -> Result<String, Refusal> {
     Ok(format!(in alloc; "{text}; what was held is kept")?)
 }
 
-fn keys_of(alloc: Global, wanted: &NameMap<Wanted>) -> Result<BTreeSet<String>, Refusal> {
+fn keys_of(alloc: Global, wanted: &NameMap<FileResource>) -> Result<BTreeSet<String>, Refusal> {
     let mut keys = BTreeSet::new(alloc);
     for (key, _) in wanted.iter() {
         if keys.insert(String::from_str(alloc, key.as_str())?).is_err() {
@@ -498,7 +503,7 @@ fn keys_of(alloc: Global, wanted: &NameMap<Wanted>) -> Result<BTreeSet<String>, 
     Ok(keys)
 }
 
-fn count_of(wanted: &NameMap<Wanted>) -> u64 {
+fn count_of(wanted: &NameMap<FileResource>) -> u64 {
     wanted.iter().len() as u64
 }
 
@@ -527,7 +532,7 @@ enum Together {
     // All were made.
     All,
     // A response would be too long by one of them.
-    Long(Untaken),
+    Long(Fault),
     // One wasn't made.
     Left,
 }

@@ -71,7 +71,7 @@ pub enum Reached {
 }
 
 // How far the writes of each replica are stored, and what became of the store.
-struct State {
+struct StoringState {
     // Of each replica the counts of changes that are stored; none before its thread has begun.
     places: Vec<Option<Marks>>,
     // Why what was tried last isn't stored, if it isn't.
@@ -85,9 +85,9 @@ struct State {
 }
 
 // Written out: docs/PROVING.md, "Drops".
-impl Drop for State {
+impl Drop for StoringState {
     fn drop(self) {
-        let State {
+        let StoringState {
             places: _,
             failing: _,
             failures: _,
@@ -100,7 +100,7 @@ impl Drop for State {
 
 /// How far the writes of a server's replicas are stored, as its threads know it.
 pub struct Progress {
-    state: Mutex<State>,
+    state: Mutex<StoringState>,
     // Something is stored, or failed.
     moved: Condvar,
     // The store is closed.
@@ -120,7 +120,7 @@ impl Drop for Progress {
 
 /// What is told of a store.
 #[derive(Clone, Copy, Debug, PartialEq, Eq)]
-pub struct Told {
+pub struct StoreTold {
     /// Why what was tried last isn't stored, if it isn't.
     pub failing: Option<Unstored>,
     pub failures: u64,
@@ -135,7 +135,7 @@ impl Progress {
             places.push(None)?;
         }
         Ok(Progress {
-            state: Mutex::new(State {
+            state: Mutex::new(StoringState {
                 places,
                 failing: None,
                 failures: 0,
@@ -202,9 +202,9 @@ impl Progress {
     }
 
     /// What is told of the store.
-    pub fn told<R: Wait>(&self, rt: &R) -> Told {
+    pub fn told<R: Wait>(&self, rt: &R) -> StoreTold {
         let state = self.state.lock(rt);
-        Told {
+        StoreTold {
             failing: state.failing,
             failures: state.failures,
             commits: state.commits,
@@ -248,7 +248,7 @@ impl Progress {
     }
 }
 
-impl State {
+impl StoringState {
     // What is stored of a replica, if its thread has begun.
     fn at(&self, replica: u16) -> Option<Marks> {
         match self.places.get(usize::from(replica).wrapping_sub(1)) {

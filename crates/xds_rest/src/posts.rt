@@ -1,10 +1,10 @@
 // What posts ask.
 use std::sync::Wait;
 use xds_core::{Event, Reply};
-use xds_node::{Node, NodeName, Seat, Unrecorded};
+use xds_node::{NodeName, Seat, SharedNode, Unrecorded};
 use xds_resource::Refusal;
 
-/// A replica that threads share, as posts ask it. [`Node`] is one. The reply to a post is [`reply_at`](crate::by_seat::reply_at)'s.
+/// A replica that threads share, as posts ask it. [`SharedNode`] is one. The reply to a post is [`reply_at`](crate::by_seat::reply_at)'s.
 pub trait Posts {
     ghost use Rattle.std.specs.Prelude.{◌≡◌, ℕ, IfOk, IfErr};
     ghost use Rattle.xds_core.specs.Seen.{event_of, answer_of};
@@ -23,7 +23,7 @@ pub trait Posts {
     fn post_seat<R: Wait>(&self, rt: &R) -> Result<Self::PostSeat, Refusal>
         ensures { IfOk result (λ s. calls s ≡ no_calls) };
 
-    /// One event of a seat, and one record of it, as [`Node::call`] makes it. It may wait.
+    /// One event of a seat, and one record of it, as [`SharedNode::call`] makes it. It may wait.
     fn post_call<R: Wait>(
         &self,
         rt: &R,
@@ -42,7 +42,7 @@ pub trait Posts {
     fn post_replied<R: Wait>(&self, rt: &R, status: u16);
 }
 
-impl<N: NodeName> Posts for Node<N> {
+impl<N: NodeName> Posts for SharedNode<N> {
     type PostSeat = Seat<N>;
 
     ghost replica = { N.replica };

@@ -12,7 +12,7 @@ use Rattle.xds_core.specs.Events.{Event, Request, Reply, Opened, Answered, Polle
 use Rattle.xds_cache.specs.Clients.{unlinked}
 use Rattle.xds_cache.specs.Faults.{Test}
 use Rattle.xds_world.specs.declared.event.ClientKind.{ClientKind}
-use Rattle.xds_world.specs.declared.event.Answer.{Answer}
+use Rattle.xds_world.specs.declared.event.AnswerFate.{AnswerFate}
 use Rattle.xds_world.specs.Happenings.{Happening, Wish, AddReplica, AddClient, Put, Delete, Snapshot, Merge, Connect, Change, Up, Poll, Down, Lose, RestPoll}
 use Rattle.xds_world.specs.Worlds.{Link, Peer, World, at_site, happened_at, placed, pooled, with_peer, new_peer, connected_to, opened, changed, wish_taken, under_way, polled, up_taken, received, taken_down, down_taken, on_link, is_to_connect, poll_event, rested, rest_polled, happens}
 use Rattle.xds_world.specs.Claims.{PutsAResource}
@@ -213,12 +213,12 @@ module _ (store : ℕ) (taken : List ℕ) (stored : Store) where
       })
 
   -- a poll without a stream happens there as itself
-  pub record PolledThere (test : Test) (w left : World) (sites : Sites) (pool : Pool) (c r : ℕ) (t : TypeName) (answer : Answer) : Type 0 where
+  pub record PolledThere (test : Test) (w left : World) (sites : Sites) (pool : Pool) (c r : ℕ) (t : TypeName) (answer : AnswerFate) : Type 0 where
     pub after : Sites
     pub happened : happens test (wide w sites pool) (RestPoll c r t answer) ≡ Some (wide left after pool)
     pub inside : Within store taken stored left.sites left.pool after pool
 
-  pub rest_there : (test : Test) (w left : World) (sites : Sites) (pool : Pool) (c r : ℕ) (t : TypeName) (answer : Answer) → happens test w (RestPoll c r t answer) ≡ Some left → Within store taken stored w.sites w.pool sites pool
+  pub rest_there : (test : Test) (w left : World) (sites : Sites) (pool : Pool) (c r : ℕ) (t : TypeName) (answer : AnswerFate) → happens test w (RestPoll c r t answer) ≡ Some left → Within store taken stored w.sites w.pool sites pool
       → PolledThere test w left sites pool c r t answer
   rest_there test w left sites pool c r t answer is x =
       let y = rest_poll_is test w left c r t answer is in

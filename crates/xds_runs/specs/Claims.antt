@@ -26,7 +26,7 @@ use Rattle.xds_core.specs.Stores.{Store}
 use Rattle.xds_cache.specs.Clients.{shelf, view}
 use Rattle.xds_cache.specs.Faults.{Test}
 use Rattle.xds_world.specs.declared.event.ClientKind.TheVariants.{Sotw, Delta}
-use Rattle.xds_world.specs.declared.event.Answer.TheVariants.{Arrives}
+use Rattle.xds_world.specs.declared.event.AnswerFate.TheVariants.{Arrives}
 use Rattle.xds_world.specs.Happenings.{Happening, RestPoll}
 use Rattle.xds_world.specs.Worlds.{Site, Peer, Link, World, world, happens}
 use Rattle.xds_world.specs.Claims.{PutsAResource, PutResources, Headline, is_settled, rejects, IsExact, Shows}

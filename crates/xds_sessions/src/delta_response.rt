@@ -55,22 +55,22 @@ impl Said {
 }
 
 // What a response says, while it is gathered.
-struct Gathered {
+struct GatheredResponse {
     resources: Vec<DraftResource>,
     removed: Vec<String>,
 }
 
 // Written out: docs/PROVING.md, "Drops".
-impl Drop for Gathered {
+impl Drop for GatheredResponse {
     fn drop(self) {
-        let Gathered {
+        let GatheredResponse {
             resources: _,
             removed: _,
         } = self;
     }
 }
 
-impl Model for Gathered {
+impl Model for GatheredResponse {
     ghost use Rattle.std.specs.Prelude.{map, string_bytes};
     ghost use Rattle.xds_sessions.specs.DeltaPolls as polls;
 
@@ -79,11 +79,11 @@ impl Model for Gathered {
     ghost view = { λ g. record { resources = g.resources.items; removed = map string_bytes g.removed.items } };
 }
 
-impl Gathered {
-    fn new(alloc: Global) -> Gathered
+impl GatheredResponse {
+    fn new(alloc: Global) -> GatheredResponse
         ensures { result ≡ nothing_said }
     {
-        Gathered {
+        GatheredResponse {
             resources: Vec::new(alloc),
             removed: Vec::new(alloc),
         }
@@ -114,7 +114,7 @@ impl Gathered {
         ensures ok { IfOk result (λ s. s ≡ self) }
         ensures refused { IfErr result (λ e. e ≡ OutOfMemory) }
     {
-        let Gathered { resources, removed } = self;
+        let GatheredResponse { resources, removed } = self;
         Ok(Said {
             resources: Resources::new(resources)?,
             removed,
@@ -128,11 +128,11 @@ fn say_all<T: ResourceType>(
     alloc: Global,
     catalogue: &Catalogue<T>,
     offer: &NameMap<Due>,
-) -> Result<Gathered, Refusal>
+) -> Result<GatheredResponse, Refusal>
     ensures ok { IfOk result (λ g. g ≡ said_all catalogue.now.entries nothing_said (finmap.entries offer.now)) }
     ensures refused { IfErr result (λ e. e ≡ OutOfMemory) }
 {
-    let mut all = Gathered::new(alloc);
+    let mut all = GatheredResponse::new(alloc);
     for (name, due) in offer.iter() {
         all.say(alloc, catalogue, name, due)?;
     }

@@ -11,7 +11,7 @@ use Rattle.xds_resource.specs.Any.{resource_type, named_body, write_type, stampe
 use Rattle.xds_resource.specs.Writes.{text_cmp}
 use Rattle.xds_resource.proofs.NameMaps.{bytes_eq_tells, bytes_eq_swap}
 use Rattle.xds_resource.proofs.MadeMaps.{holds_first, holds_second, find_below}
-use Rattle.xds_sources.specs.declared.reading.Wanted.{Wanted}
+use Rattle.xds_sources.specs.declared.reading.FileResource.{FileResource}
 use Rattle.xds_sources.specs.Differences.{Edit, puts, deletes, is_for_all, puts_body, stands, puts_of, deletes_of, Live, live_in, held_at, wanted_live, edit_key, edit_live, after, AreWantedByKey, AreHeldByKey, LeavesTheWanted}
 
 after-append : (xs ys : List Edit) (s : List ℕ → Option Live) (k : List ℕ) → after (xs ++ ys) s k ≡ after ys (λ q. after xs s q) k
@@ -25,17 +25,17 @@ made_or_not true p es s k = refl
 made_or_not false p es s k = refl
 
 -- what the puts leave, of what is wanted and was live
-abbrev put_at : Option AnyWrite → Option Wanted → Option Live → Option Live
+abbrev put_at : Option AnyWrite → Option FileResource → Option Live → Option Live
 put_at h None o = o
 put_at h (Some w) o = cond (stands h w.resource) o (Some (wanted_live w))
 
-put_step : (b here : Bool) (h : Option AnyWrite) (w : Wanted) (later : Option Wanted) (o : Option Live) → (here ≡ true → later ≡ None) → (here ≡ true → b ≡ stands h w.resource)
+put_step : (b here : Bool) (h : Option AnyWrite) (w : FileResource) (later : Option FileResource) (o : Option Live) → (here ≡ true → later ≡ None) → (here ≡ true → b ≡ stands h w.resource)
     → put_at h later (cond b o (cond here (Some (wanted_live w)) o)) ≡ put_at h (cond here (Some w) later) o
 put_step b true h w later o alone is = ap (λ l. put_at h l (cond b o (Some (wanted_live w)))) (alone refl) ∙ ap (λ x. cond x o (Some (wanted_live w))) (is refl)
 put_step true false h w later o alone is = refl
 put_step false false h w later o alone is = refl
 
-puts_leave : (held : finmap.FinMap text_cmp AnyWrite) (es : List (List ℕ × Wanted)) (s : List ℕ → Option Live) (k : List ℕ) → T (is_sorted text_cmp es) → AreWantedByKey es
+puts_leave : (held : finmap.FinMap text_cmp AnyWrite) (es : List (List ℕ × FileResource)) (s : List ℕ → Option Live) (k : List ℕ) → T (is_sorted text_cmp es) → AreWantedByKey es
     → after (puts_of held es) s k ≡ put_at (finmap.get held k) (finmap.find text_cmp k es) (s k)
 puts_leave held [] s k sorted keyed = refl
 puts_leave held (e ∷ es) s k sorted keyed =
@@ -52,17 +52,17 @@ puts_leave held (e ∷ es) s k sorted keyed =
     ∙ ap (λ here. put_at (finmap.get held k) (cond here (Some e.1) later) (s k)) (bytes_eq_swap e.0 k ∙ sym (is_eq-slice_cmp k e.0))
 
 -- what the deletions leave
-abbrev kept_at : Option Wanted → Option AnyWrite → Option Live → Option Live
+abbrev kept_at : Option FileResource → Option AnyWrite → Option Live → Option Live
 kept_at g None o = o
 kept_at g (Some w) o = cond (is_some g) o None
 
-kept_step : (b here : Bool) (g : Option Wanted) (w : AnyWrite) (later : Option AnyWrite) (o : Option Live) → (here ≡ true → later ≡ None) → (here ≡ true → b ≡ is_some g)
+kept_step : (b here : Bool) (g : Option FileResource) (w : AnyWrite) (later : Option AnyWrite) (o : Option Live) → (here ≡ true → later ≡ None) → (here ≡ true → b ≡ is_some g)
     → kept_at g later (cond b o (cond here None o)) ≡ kept_at g (cond here (Some w) later) o
 kept_step b true g w later o alone is = ap (λ l. kept_at g l (cond b o None)) (alone refl) ∙ ap (λ x. cond x o None) (is refl)
 kept_step true false g w later o alone is = refl
 kept_step false false g w later o alone is = refl
 
-deletes_leave : (wanted : finmap.FinMap text_cmp Wanted) (es : List (List ℕ × AnyWrite)) (s : List ℕ → Option Live) (k : List ℕ) → T (is_sorted text_cmp es) → AreHeldByKey es
+deletes_leave : (wanted : finmap.FinMap text_cmp FileResource) (es : List (List ℕ × AnyWrite)) (s : List ℕ → Option Live) (k : List ℕ) → T (is_sorted text_cmp es) → AreHeldByKey es
     → after (deletes_of wanted es) s k ≡ kept_at (finmap.get wanted k) (finmap.find text_cmp k es) (s k)
 deletes_leave wanted [] s k sorted keyed = refl
 deletes_leave wanted (e ∷ es) s k sorted keyed =
@@ -100,7 +100,7 @@ choose : (b : Bool) (o : Option Live) (x : Live) → (b ≡ true → o ≡ Some 
 choose true o x f = f refl
 choose false o x f = refl
 
-both_leave : (h : Option AnyWrite) (g : Option Wanted) → kept_at g h (put_at h g (held_at h)) ≡ option_map wanted_live g
+both_leave : (h : Option AnyWrite) (g : Option FileResource) → kept_at g h (put_at h g (held_at h)) ≡ option_map wanted_live g
 both_leave None None = refl
 both_leave (Some w) None = refl
 both_leave None (Some v) = refl

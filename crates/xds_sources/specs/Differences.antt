@@ -26,7 +26,7 @@ use Rattle.xds_resource.specs.Any.{resource_type, named_body, write_type, stampe
 use Rattle.xds_sources.specs.Keys.{key}
 use Rattle.xds_sources.specs.declared.differences.SourceChange.{SourceChange}
 use Rattle.xds_sources.specs.declared.differences.SourceChange.TheVariants.{Put, Delete}
-use Rattle.xds_sources.specs.declared.reading.Wanted.{Wanted}
+use Rattle.xds_sources.specs.declared.reading.FileResource.{FileResource}
 
 -- a change: a resource of a type is put for all clients, or the resource of a name is deleted
 pub data Edit : Type 0 where
@@ -53,17 +53,17 @@ stands None r = false
 stands (Some w) r = puts_body (stamped_write w) (named_body r).body
 
 -- the puts of what isn't held as it is wanted, in order
-abbrev pub puts_of : finmap.FinMap text_cmp AnyWrite → List (List ℕ × Wanted) → List Edit
+abbrev pub puts_of : finmap.FinMap text_cmp AnyWrite → List (List ℕ × FileResource) → List Edit
 puts_of held [] = []
 puts_of held (e ∷ es) = if stands (finmap.get held e.0) e.1.resource then puts_of held es else puts (resource_type e.1.resource) (named_body e.1.resource) ∷ puts_of held es
 
 -- the deletions of what isn't wanted, in order
-abbrev pub deletes_of : finmap.FinMap text_cmp Wanted → List (List ℕ × AnyWrite) → List Edit
+abbrev pub deletes_of : finmap.FinMap text_cmp FileResource → List (List ℕ × AnyWrite) → List Edit
 deletes_of wanted [] = []
 deletes_of wanted (e ∷ es) = if is_some (finmap.get wanted e.0) then deletes_of wanted es else deletes (write_type e.1) (stamped_write e.1).name ∷ deletes_of wanted es
 
 -- both, the puts first
-abbrev pub difference : finmap.FinMap text_cmp AnyWrite → finmap.FinMap text_cmp Wanted → List Edit
+abbrev pub difference : finmap.FinMap text_cmp AnyWrite → finmap.FinMap text_cmp FileResource → List Edit
 difference held wanted = puts_of held (finmap.entries wanted) ++ deletes_of wanted (finmap.entries held)
 
 -- what is live under a key: a body, and the groups that it is for
@@ -80,7 +80,7 @@ held_at None = None
 held_at (Some w) = live_in (stamped_write w)
 
 -- what is live once a resource is put for all clients
-abbrev pub wanted_live : Wanted → Live
+abbrev pub wanted_live : FileResource → Live
 wanted_live w = record { body = (named_body w.resource).body; groups = [] }
 
 -- the key that a change is made at
@@ -99,7 +99,7 @@ after [] s k = s k
 after (e ∷ es) s k = after es (λ q. cond (bytes_eq (edit_key e) q) (edit_live e) (s q)) k
 
 -- each stands under the key of its type and name
-abbrev pub AreWantedByKey : List (List ℕ × Wanted) → Type 0
+abbrev pub AreWantedByKey : List (List ℕ × FileResource) → Type 0
 AreWantedByKey [] = Unit {0}
 AreWantedByKey (e ∷ es) = (key (resource_type e.1.resource) (named_body e.1.resource).name ≡ e.0) × AreWantedByKey es
 
@@ -110,5 +110,5 @@ AreHeldByKey (e ∷ es) = (key (write_type e.1) (stamped_write e.1).name ≡ e.0
 -- once the changes are made exactly what is wanted is live
 abbrev pub LeavesTheWanted : Type 0
 LeavesTheWanted =
-    (held : finmap.FinMap text_cmp AnyWrite) (wanted : finmap.FinMap text_cmp Wanted) → AreWantedByKey (finmap.entries wanted) → AreHeldByKey (finmap.entries held) → (k : List ℕ)
+    (held : finmap.FinMap text_cmp AnyWrite) (wanted : finmap.FinMap text_cmp FileResource) → AreWantedByKey (finmap.entries wanted) → AreHeldByKey (finmap.entries held) → (k : List ℕ)
     → after (difference held wanted) (λ q. held_at (finmap.get held q)) k ≡ option_map wanted_live (finmap.get wanted k)

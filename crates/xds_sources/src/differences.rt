@@ -5,7 +5,7 @@ ghost use Rattle.std.specs.FinMap as finmap;
 ghost use Rattle.xds_sources.specs.Differences.{difference, edit_of, puts_of, deletes_of, stands, is_for_all, puts_body};
 ghost use Rattle.xds_resource.specs.Any.{stamped_write};
 
-use crate::reading::Wanted;
+use crate::reading::FileResource;
 use std::alloc::Global;
 use xds_resource::{AnyResource, AnyWrite, NameMap, Refusal, TypeName};
 
@@ -24,7 +24,7 @@ pub enum SourceChange {
 pub fn difference(
     alloc: Global,
     held: &NameMap<AnyWrite>,
-    wanted: &NameMap<Wanted>,
+    wanted: &NameMap<FileResource>,
 ) -> Result<Vec<SourceChange>, Refusal>
     ensures { IfOk result (λ v. map edit_of v.items ≡ difference held.now wanted.now) }
 {
@@ -39,7 +39,7 @@ fn push_puts(
     alloc: Global,
     changes: &mut Vec<SourceChange>,
     held: &NameMap<AnyWrite>,
-    wanted: &NameMap<Wanted>,
+    wanted: &NameMap<FileResource>,
 ) -> Result<(), Refusal>
     ensures { OnOk result (map edit_of changes.new.items ≡ map edit_of changes.old.items ++ puts_of held.now (finmap.entries wanted.now)) }
 {
@@ -83,7 +83,7 @@ fn push_deletes(
     alloc: Global,
     changes: &mut Vec<SourceChange>,
     held: &NameMap<AnyWrite>,
-    wanted: &NameMap<Wanted>,
+    wanted: &NameMap<FileResource>,
 ) -> Result<(), Refusal>
     ensures { OnOk result (map edit_of changes.new.items ≡ map edit_of changes.old.items ++ deletes_of wanted.now (finmap.entries held.now)) }
 {

@@ -4,7 +4,7 @@ use xds_resource::{Refusal, TypeName};
 
 /// Where in a file something is wrong.
 #[derive(Clone, Copy, Debug, PartialEq, Eq)]
-pub enum Place {
+pub enum FilePlace {
     /// In the file as a whole.
     Whole,
     /// In a line, from 1.
@@ -32,30 +32,30 @@ pub enum Wrong {
 
 /// Something wrong in a file, by its place among the files, from 0.
 #[derive(Drop)]
-pub struct Fault {
+pub struct SourceFault {
     pub file: usize,
-    pub place: Place,
+    pub place: FilePlace,
     pub wrong: Wrong,
 }
 
-impl Fault {
+impl SourceFault {
     /// There is no memory.
-    pub(crate) fn memory(file: usize) -> Fault {
-        Fault {
+    pub(crate) fn memory(file: usize) -> SourceFault {
+        SourceFault {
             file,
-            place: Place::Whole,
+            place: FilePlace::Whole,
             wrong: Wrong::Refused(Refusal::OutOfMemory),
         }
     }
 }
 
-impl Place {
+impl FilePlace {
     /// How it is told, before what is wrong there.
     pub fn text(self, alloc: Global) -> Result<String, Refusal> {
         match self {
-            Place::Whole => Ok(String::new(alloc)),
-            Place::Line(line) => Ok(format!(in alloc; "line {line}: ")?),
-            Place::Resource(number) => Ok(format!(in alloc; "resource {number}: ")?),
+            FilePlace::Whole => Ok(String::new(alloc)),
+            FilePlace::Line(line) => Ok(format!(in alloc; "line {line}: ")?),
+            FilePlace::Resource(number) => Ok(format!(in alloc; "resource {number}: ")?),
         }
     }
 }

@@ -11,7 +11,7 @@ pub mod references;
 pub mod walking;
 
 pub use differences::{SourceChange, difference};
-pub use fault::{Fault, Place, Wrong};
+pub use fault::{FilePlace, SourceFault, Wrong};
 pub use keys::key_of;
-pub use reading::{MAX_SOURCES, SourceFile, Wanted, is_source, read_sources};
+pub use reading::{FileResource, MAX_SOURCES, SourceFile, is_source, read_sources};
 pub use references::{Dangling, Reference, dangling_in, references_of};

@@ -1,5 +1,5 @@
 // The resources that the files of a folder say.
-use crate::fault::{Fault, Place, Wrong};
+use crate::fault::{FilePlace, SourceFault, Wrong};
 use crate::keys::key_of;
 use serde_json::{Category, Value};
 use std::alloc::Global;
@@ -18,7 +18,7 @@ pub struct SourceFile {
 
 /// A resource that a file says.
 #[derive(Drop)]
-pub struct Wanted {
+pub struct FileResource {
     pub resource: AnyResource,
     /// The place of the file among the files, from 0.
     pub file: usize,
@@ -30,7 +30,10 @@ pub fn is_source(name: &str) -> bool {
 }
 
 /// All resources of some files, each by its type and name. The first thing that is wrong is told, by the order of the files.
-pub fn read_sources(alloc: Global, files: &[SourceFile]) -> Result<NameMap<Wanted>, Fault> {
+pub fn read_sources(
+    alloc: Global,
+    files: &[SourceFile],
+) -> Result<NameMap<FileResource>, SourceFault> {
     let mut wanted = NameMap::new(alloc);
     for (index, file) in files.iter().enumerate() {
         read_file(alloc, &mut wanted, index, file)?;
@@ -41,14 +44,14 @@ pub fn read_sources(alloc: Global, files: &[SourceFile]) -> Result<NameMap<Wante
 // Adds the resources of a file: each line's, or those of one text of JSON.
 fn read_file(
     alloc: Global,
-    wanted: &mut NameMap<Wanted>,
+    wanted: &mut NameMap<FileResource>,
     index: usize,
     file: &SourceFile,
-) -> Result<(), Fault> {
+) -> Result<(), SourceFault> {
     let Ok(text) = str::from_utf8(file.bytes.as_slice()) else {
-        return Err(Fault {
+        return Err(SourceFault {
             file: index,
-            place: Place::Whole,
+            place: FilePlace::Whole,
             wrong: Wrong::NotUtf8,
         });
     };
@@ -62,15 +65,15 @@ fn read_file(
 // Adds the resource of each line that isn't empty.
 fn read_lines(
     alloc: Global,
-    wanted: &mut NameMap<Wanted>,
+    wanted: &mut NameMap<FileResource>,
     index: usize,
     text: &str,
-) -> Result<(), Fault> {
+) -> Result<(), SourceFault> {
     let mut number = 0u64;
     for line in text.split('\n') {
         number = number.saturating_add(1);
         if !line.trim().is_empty() {
-            let place = Place::Line(number);
+            let place = FilePlace::Line(number);
             let value = value_in(alloc, index, Some(number), line)?;
             add_value(alloc, wanted, index, place, value)?;
         }
@@ -81,25 +84,30 @@ fn read_lines(
 // Adds the resources that a text of JSON lists, or the one that it is.
 fn read_listed(
     alloc: Global,
-    wanted: &mut NameMap<Wanted>,
+    wanted: &mut NameMap<FileResource>,
     index: usize,
     text: &str,
-) -> Result<(), Fault> {
+) -> Result<(), SourceFault> {
     let value = value_in(alloc, index, None, text)?;
     let listed = match listed_in(alloc, value) {
         Ok(listed) => listed,
-        Err(_) => return Err(Fault::memory(index)),
+        Err(_) => return Err(SourceFault::memory(index)),
     };
     let mut number = 0u64;
     for value in listed {
         number = number.saturating_add(1);
-        add_value(alloc, wanted, index, Place::Resource(number), value)?;
+        add_value(alloc, wanted, index, FilePlace::Resource(number), value)?;
     }
     Ok(())
 }
 
 // The value of a text of JSON, which is this line of its file, or else all of it.
-fn value_in(alloc: Global, file: usize, line: Option<u64>, text: &str) -> Result<Value, Fault> {
+fn value_in(
+    alloc: Global,
+    file: usize,
+    line: Option<u64>,
+    text: &str,
+) -> Result<Value, SourceFault> {
     match Value::from_str(alloc, text) {
         Ok(value) => Ok(value),
         Err(error) => {
@@ -112,9 +120,9 @@ fn value_in(alloc: Global, file: usize, line: Option<u64>, text: &str) -> Result
             } else {
                 Refusal::NotJson
             };
-            Err(Fault {
+            Err(SourceFault {
                 file,
-                place: Place::Line(line),
+                place: FilePlace::Line(line),
                 wrong: Wrong::Refused(refusal),
             })
         }
@@ -150,18 +158,18 @@ fn alone(alloc: Global, value: Value) -> Result<Vec<Value>, Refusal> {
 // Adds the resource that a value is.
 fn add_value(
     alloc: Global,
-    wanted: &mut NameMap<Wanted>,
+    wanted: &mut NameMap<FileResource>,
     file: usize,
-    place: Place,
+    place: FilePlace,
     value: Value,
-) -> Result<(), Fault> {
+) -> Result<(), SourceFault> {
     let resource = match resource_of(alloc, value) {
         Ok(resource) => resource,
-        Err(wrong) => return Err(Fault { file, place, wrong }),
+        Err(wrong) => return Err(SourceFault { file, place, wrong }),
     };
     match add(alloc, wanted, file, resource) {
         Ok(()) => Ok(()),
-        Err(wrong) => Err(Fault { file, place, wrong }),
+        Err(wrong) => Err(SourceFault { file, place, wrong }),
     }
 }
 
@@ -202,7 +210,7 @@ fn has_name(value: &Value, kind: TypeName) -> bool {
 // Adds a resource of a file, unless there is one of its type and name.
 fn add(
     alloc: Global,
-    wanted: &mut NameMap<Wanted>,
+    wanted: &mut NameMap<FileResource>,
     file: usize,
     resource: AnyResource,
 ) -> Result<(), Wrong> {
@@ -218,7 +226,7 @@ fn add(
         let first = other.file;
         return Err(twice(alloc, kind, resource, first));
     }
-    match wanted.insert(key, Wanted { resource, file }) {
+    match wanted.insert(key, FileResource { resource, file }) {
         Ok(old) => {
             drop(old);
             Ok(())

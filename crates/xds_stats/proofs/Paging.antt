@@ -3,10 +3,10 @@ use Rattle.std.proofs.Common.{◌≡◌, ℕ, ◌+◌, ◌<◌, ◌≤◌, List,
 use Rattle.std.specs.List.{flat_map}
 use Rattle.std.proofs.lemmas.List.{drop_more, drop_all}
 use Rattle.xds_stats.specs.Pages.{with_each}
-use Rattle.xds_stats.specs.declared.pages.Shown.{Shown}
+use Rattle.xds_stats.specs.declared.pages.ReplicaNumbers.{ReplicaNumbers}
 
-module _ (put : List ℕ → Shown → List ℕ) (xs : List Shown) (i : ℕ) where
-  pub put_more : (x : Shown) (text next all : List ℕ) → i < length xs → next ≡ put text (get_or xs i x)
+module _ (put : List ℕ → ReplicaNumbers → List ℕ) (xs : List ReplicaNumbers) (i : ℕ) where
+  pub put_more : (x : ReplicaNumbers) (text next all : List ℕ) → i < length xs → next ≡ put text (get_or xs i x)
       → with_each put text (drop i xs) ≡ all → with_each put next (drop (i + 1) xs) ≡ all
   put_more x text next all within made so_far =
       ap (λ t. with_each put t (drop (i + 1) xs)) made ∙ sym (ap (with_each put text) (drop_more xs i x within)) ∙ so_far

@@ -46,14 +46,14 @@ use Rattle.xds_stats.specs.declared.numbers.StreamCounts.{StreamCounts}
 use Rattle.xds_stats.specs.declared.sight.Heard.{Heard}
 use Rattle.xds_stats.specs.declared.sight.Sight.{Sight}
 use Rattle.xds_stats.specs.declared.sight.Sight.TheVariants.{Request, Poll, Change, Part, Other}
-use Rattle.xds_stats.specs.declared.sight.Names.{Names}
-use Rattle.xds_stats.specs.declared.sight.Names.TheVariants.{Listed, Edited}
+use Rattle.xds_stats.specs.declared.sight.NamesChange.{NamesChange}
+use Rattle.xds_stats.specs.declared.sight.NamesChange.TheVariants.{Listed, Edited}
 use Rattle.xds_stats.specs.declared.stream_status.StreamStatus.{StreamStatus}
 use Rattle.xds_stats.specs.declared.stream_status.TypeStatus.{TypeStatus}
 use Rattle.xds_stats.specs.declared.stream_status.TypeStatuses.{TypeStatuses}
 
 -- how many names a stream asks for after a request, where it asked for so many before
-abbrev pub names_after : Names → ℕ → ℕ
+abbrev pub names_after : NamesChange → ℕ → ℕ
 names_after (Listed count) before = count
 names_after (Edited more fewer) before = min (before + more) (2 ^ 64 - 1) - fewer
 

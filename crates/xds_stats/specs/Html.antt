@@ -11,8 +11,8 @@
 --     row_html        what is shown of a stream, whose cells are these
 use Rattle.std.specs.Prelude.{ℕ, List, [], ◌++◌, ◌==◌, if◌then◌else◌, codes, decimal, encode_utf8, flat_map, string_bytes}
 use Rattle.std.specs.Str.{chars}
-use Rattle.xds_stats.specs.declared.state.State.{State}
-use Rattle.xds_stats.specs.declared.state.State.TheVariants.{NeverAsked, Pending, Rejected, Synced}
+use Rattle.xds_stats.specs.declared.state.TypeState.{TypeState}
+use Rattle.xds_stats.specs.declared.state.TypeState.TheVariants.{NeverAsked, Pending, Rejected, Synced}
 use Rattle.xds_stats.specs.declared.stream_status.StreamStatus.{StreamStatus}
 use Rattle.xds_stats.specs.declared.stream_status.TypeStatus.{TypeStatus}
 use Rattle.xds_stats.specs.States.{state_of, state_word}
@@ -29,7 +29,7 @@ abbrev pub escaped : List ℕ → List ℕ
 escaped text = flat_map html_char (chars text)
 
 -- the class of a state, by which it has its colour
-abbrev pub class_word : State → List ℕ
+abbrev pub class_word : TypeState → List ℕ
 class_word NeverAsked = codes "never"
 class_word Pending = codes "pending"
 class_word Rejected = codes "rejected"
@@ -48,7 +48,7 @@ abbrev pub told_html : TypeStatus → List ℕ → List ℕ
 told_html status since =
     codes "<br>since " ++ (since ++ (codes "<br>sent " ++ (escaped (string_bytes status.sent) ++ (codes "<br>accepted " ++ escaped (string_bytes status.accepted)))))
 
-abbrev detail_by : State → TypeStatus → List ℕ → List ℕ
+abbrev detail_by : TypeState → TypeStatus → List ℕ → List ℕ
 detail_by NeverAsked status since = []
 detail_by Pending status since = told_html status since
 detail_by Rejected status since = told_html status since

@@ -16,7 +16,7 @@ use Rattle.xds_resource.specs.declared.types.TypeName.TheVariants.{Cluster, Endp
 use Rattle.std.specs.declared.time.Instant.{Instant}
 use Rattle.xds_stats.specs.declared.latencies.Latencies.{Latencies}
 use Rattle.xds_stats.specs.declared.puts.PutMark.{PutMark}
-use Rattle.xds_stats.specs.declared.puts.Puts.{Puts}
+use Rattle.xds_stats.specs.declared.puts.PutCounts.{PutCounts}
 use Rattle.xds_stats.specs.Boards.{more}
 use Rattle.xds_stats.specs.Metrics.{sample_line, seconds_text, value_line}
 
@@ -44,7 +44,7 @@ abbrev pub no_latencies : Latencies
 no_latencies = record { ms_1 = 0; ms_5 = 0; ms_25 = 0; ms_100 = 0; ms_500 = 0; s_2 = 0; s_10 = 0; s_60 = 0; count = 0; micros = 0 }
 
 -- what was made of a type
-abbrev pub mark_at : Puts → TypeName → PutMark
+abbrev pub mark_at : PutCounts → TypeName → PutMark
 mark_at puts Cluster = puts.cluster
 mark_at puts Endpoint = puts.endpoint
 mark_at puts Listener = puts.listener
@@ -55,7 +55,7 @@ abbrev marked : PutMark → Option Instant → PutMark
 marked mark at = record { made = more mark.made; at = at }
 
 -- once one more was made of a type
-abbrev pub marked_at : Puts → TypeName → Option Instant → Puts
+abbrev pub marked_at : PutCounts → TypeName → Option Instant → PutCounts
 marked_at puts Cluster at = record puts { cluster = marked puts.cluster at }
 marked_at puts Endpoint at = record puts { endpoint = marked puts.endpoint at }
 marked_at puts Listener at = record puts { listener = marked puts.listener at }

@@ -30,7 +30,7 @@ use Rattle.log.specs.Line.{header_text}
 use Rattle.xds_resource.specs.declared.refusal.Refusal.{Refusal}
 use Rattle.xds_resource.specs.Refusals.{number_of, name_of}
 use Rattle.xds_resource.specs.Types.{row}
-use Rattle.xds_stats.specs.declared.log_event.Place.{Place}
+use Rattle.xds_stats.specs.declared.log_event.StreamPlace.{StreamPlace}
 use Rattle.xds_stats.specs.declared.log_event.FirstRequest.{FirstRequest as First}
 use Rattle.xds_stats.specs.declared.log_event.Rejection.{Rejection}
 use Rattle.xds_stats.specs.declared.log_event.LogEvent.{LogEvent}
@@ -48,26 +48,26 @@ abbrev pub excerpt : List ℕ → List ℕ
 excerpt text = flat_map (λ c. encode_utf8 (shown_char c)) (take 256 (chars text))
 
 -- which stream of which replica
-abbrev pub place_text : Place → List ℕ
+abbrev pub place_text : StreamPlace → List ℕ
 place_text place = codes "replica " ++ (decimal place.replica ++ (codes ", stream " ++ (decimal place.stream ++ codes ": ")))
 
 abbrev pub variant_word : Bool → List ℕ
 variant_word is_delta = if is_delta then codes "delta" else codes "sotw"
 
 -- the first request of a stream
-abbrev pub first_text : Place → First → List ℕ
+abbrev pub first_text : StreamPlace → First → List ℕ
 first_text place first =
     place_text place ++ (codes "first request, node \"" ++ (string_bytes first.node ++ (codes "\", cluster \"" ++ (string_bytes first.cluster
     ++ (codes "\", " ++ (variant_word first.is_delta ++ (codes ", \"" ++ (string_bytes first.type_url ++ codes "\""))))))))
 
 -- a response that a client rejected
-abbrev pub rejected_text : Place → Rejection → List ℕ
+abbrev pub rejected_text : StreamPlace → Rejection → List ℕ
 rejected_text place rejection =
     place_text place ++ (codes "response \"" ++ (string_bytes rejection.nonce ++ (codes "\" of \"" ++ (string_bytes rejection.type_url
     ++ (codes "\" is rejected: \"" ++ (string_bytes rejection.message ++ codes "\""))))))
 
 -- the end of a stream, by a refusal or without one
-abbrev pub ended_text : Place → Option Refusal → List ℕ
+abbrev pub ended_text : StreamPlace → Option Refusal → List ℕ
 ended_text place None = place_text place ++ codes "ended"
 ended_text place (Some refusal) =
     (place_text place ++ codes "ended") ++ (codes " by " ++ (decimal (number_of refusal) ++ (codes " " ++ name_of refusal)))
@@ -145,7 +145,7 @@ event_word (Idle place seconds) = codes "idle"
 event_word (Long replica kind bytes) = codes "long response"
 
 -- which stream of which replica, as members of an object behind others
-abbrev pub place_fields : Place → List ℕ
+abbrev pub place_fields : StreamPlace → List ℕ
 place_fields place = codes ",\"replica\":" ++ (decimal place.replica ++ (codes ",\"stream\":" ++ decimal place.stream))
 
 -- a refusal, as a member of an object behind others
@@ -153,16 +153,16 @@ abbrev pub reason_field : Refusal → List ℕ
 reason_field refusal = codes ",\"reason\":\"" ++ (decimal (number_of refusal) ++ (codes " " ++ (name_of refusal ++ codes "\"")))
 
 -- what is told of the end of a stream
-abbrev pub ended_fields : Place → Option Refusal → List ℕ
+abbrev pub ended_fields : StreamPlace → Option Refusal → List ℕ
 ended_fields place None = place_fields place
 ended_fields place (Some refusal) = place_fields place ++ reason_field refusal
 
-abbrev pub first_fields : Place → First → List ℕ
+abbrev pub first_fields : StreamPlace → First → List ℕ
 first_fields place first =
     place_fields place ++ (codes ",\"node\":" ++ (quoted (string_bytes first.node) ++ (codes ",\"cluster\":" ++ (quoted (string_bytes first.cluster)
     ++ (codes ",\"variant\":\"" ++ (variant_word first.is_delta ++ (codes "\",\"type\":" ++ quoted (string_bytes first.type_url))))))))
 
-abbrev pub rejected_fields : Place → Rejection → List ℕ
+abbrev pub rejected_fields : StreamPlace → Rejection → List ℕ
 rejected_fields place rejection =
     place_fields place ++ (codes ",\"type\":" ++ (quoted (string_bytes rejection.type_url) ++ (codes ",\"nonce\":" ++ (quoted (string_bytes rejection.nonce)
     ++ (codes ",\"reason\":" ++ quoted (string_bytes rejection.message))))))

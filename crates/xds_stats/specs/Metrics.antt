@@ -5,16 +5,16 @@
 --     sample_line   the number of a name, with labels, as a whole number
 --     seconds_text  so many microseconds, in seconds
 use Rattle.std.specs.Prelude.{ℕ, List, ◌++◌, codes, decimal}
-use Rattle.xds_stats.specs.declared.metrics.Kind.{Kind}
-use Rattle.xds_stats.specs.declared.metrics.Kind.TheVariants.{Counter, Gauge, Histogram}
+use Rattle.xds_stats.specs.declared.metrics.MetricKind.{MetricKind}
+use Rattle.xds_stats.specs.declared.metrics.MetricKind.TheVariants.{Counter, Gauge, Histogram}
 
-abbrev pub kind_word : Kind → List ℕ
+abbrev pub kind_word : MetricKind → List ℕ
 kind_word Counter = codes "counter"
 kind_word Gauge = codes "gauge"
 kind_word Histogram = codes "histogram"
 
 -- what the numbers of a name are, and what they do: only rise, rise and fall, or count how long something took
-abbrev pub help_line : List ℕ → List ℕ → Kind → List ℕ
+abbrev pub help_line : List ℕ → List ℕ → MetricKind → List ℕ
 help_line name help kind =
     codes "# HELP " ++ (name ++ (codes " " ++ (help ++ (codes "\n# TYPE " ++ (name ++ (codes " " ++ (kind_word kind ++ codes "\n")))))))
 

@@ -9,8 +9,8 @@
 use Rattle.std.specs.Prelude.{ℕ, List, [], ◌++◌, if◌then◌else◌, codes, decimal, string_bytes}
 use Rattle.xds_resource.specs.declared.types.TypeName.{TypeName}
 use Rattle.xds_resource.specs.Types.{row}
-use Rattle.xds_stats.specs.declared.state.State.{State}
-use Rattle.xds_stats.specs.declared.state.State.TheVariants.{NeverAsked, Pending, Rejected, Synced}
+use Rattle.xds_stats.specs.declared.state.TypeState.{TypeState}
+use Rattle.xds_stats.specs.declared.state.TypeState.TheVariants.{NeverAsked, Pending, Rejected, Synced}
 use Rattle.xds_stats.specs.declared.stream_status.StreamStatus.{StreamStatus}
 use Rattle.xds_stats.specs.declared.stream_status.TypeStatus.{TypeStatus}
 use Rattle.xds_stats.specs.States.{state_of, state_word}
@@ -29,7 +29,7 @@ abbrev pub told_plain : TypeStatus → List ℕ → List ℕ
 told_plain status since =
     codes " since " ++ (since ++ (codes ", sent \"" ++ (string_bytes status.sent ++ (codes "\", accepted \"" ++ (string_bytes status.accepted ++ codes "\"")))))
 
-abbrev detail_by : State → TypeStatus → List ℕ → List ℕ
+abbrev detail_by : TypeState → TypeStatus → List ℕ → List ℕ
 detail_by NeverAsked status since = []
 detail_by Pending status since = told_plain status since
 detail_by Rejected status since = told_plain status since

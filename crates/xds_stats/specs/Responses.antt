@@ -12,7 +12,7 @@ use Rattle.xds_resource.specs.declared.types.TypeName.{TypeName}
 use Rattle.xds_resource.specs.declared.types.TypeName.TheVariants.{Cluster, Endpoint, Listener, Route, Secret}
 use Rattle.xds_resource.specs.Types.{row}
 use Rattle.xds_stats.specs.Sizes.{warning_of}
-use Rattle.xds_stats.specs.declared.look.Look.{Look}
+use Rattle.xds_stats.specs.declared.look.ReplicaSizes.{ReplicaSizes}
 
 abbrev warning_member : Option (List ℕ) → List ℕ
 warning_member None = []
@@ -35,7 +35,7 @@ abbrev pub with_response : TypeName → ℕ → List ℕ → List ℕ
 with_response kind bytes text = text ++ (codes "," ++ response_json kind bytes)
 
 -- those of all types, as JSON
-abbrev pub responses_json : Look → List ℕ
+abbrev pub responses_json : ReplicaSizes → List ℕ
 responses_json look =
     codes "[" ++ (with_response Secret look.secret.bytes (with_response Route look.route.bytes (with_response Listener look.listener.bytes
     (with_response Endpoint look.endpoint.bytes (response_json Cluster look.cluster.bytes)))) ++ codes "]")
@@ -55,7 +55,7 @@ abbrev pub warning_html : TypeName → ℕ → List ℕ
 warning_html kind bytes = line_of kind bytes (warning_of bytes)
 
 -- the same of all types
-abbrev pub warnings_html : Look → List ℕ
+abbrev pub warnings_html : ReplicaSizes → List ℕ
 warnings_html look =
     (((warning_html Cluster look.cluster.bytes ++ warning_html Endpoint look.endpoint.bytes) ++ warning_html Listener look.listener.bytes)
     ++ warning_html Route look.route.bytes) ++ warning_html Secret look.secret.bytes

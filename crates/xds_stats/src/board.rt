@@ -7,7 +7,7 @@ use crate::doors::Doors;
 use crate::latencies::{Latencies, micros_between};
 use crate::moment::Moment;
 use crate::numbers::{JournalCounts, Numbers, RestCounts, StreamCounts, more};
-use crate::puts::Puts;
+use crate::puts::PutCounts;
 use crate::sight::Heard;
 use crate::stream_status::StreamStatus;
 use crate::trend::Trend;
@@ -34,7 +34,7 @@ pub struct Board {
     changed: Option<Instant>,
     pub lag: Option<u64>,
     /// The changes that were made here, of each type, and how long it took until streams accepted them.
-    pub puts: Puts,
+    pub puts: PutCounts,
     pub accepts: Latencies,
     /// How many changes and responses there were in the last minutes.
     pub trend: Trend,
@@ -70,7 +70,7 @@ impl Board {
             refused: 0,
             changed: None,
             lag: None,
-            puts: Puts::new(),
+            puts: PutCounts::new(),
             accepts: Latencies::new(),
             trend: Trend::new(alloc),
         }

@@ -4,7 +4,7 @@ ghost use Rattle.xds_stats.specs.Html.{cell_html, class_word, client_html, detai
 
 use crate::board::Board;
 use crate::moment::utc_text;
-use crate::state::State;
+use crate::state::TypeState;
 use crate::status_text::variant_word;
 use crate::stream_status::{StreamStatus, TypeStatus};
 use std::alloc::Global;
@@ -53,14 +53,14 @@ pub fn escaped(alloc: Global, text: &str) -> Result<String, Refusal>
 }
 
 // The class of a state, by which it has its colour.
-fn class_word(state: State) -> &'static str
+fn class_word(state: TypeState) -> &'static str
     ensures { result.now ≡ class_word state }
 {
     match state {
-        State::NeverAsked => "never",
-        State::Pending => "pending",
-        State::Rejected => "rejected",
-        State::Synced => "synced",
+        TypeState::NeverAsked => "never",
+        TypeState::Pending => "pending",
+        TypeState::Rejected => "rejected",
+        TypeState::Synced => "synced",
     }
 }
 
@@ -91,8 +91,10 @@ fn detail_html(alloc: Global, status: &TypeStatus, since: &str) -> Result<String
     ensures { IfOk result (λ t. string_bytes t ≡ detail_html status.now since.now) }
 {
     match status.state() {
-        State::NeverAsked => Ok(String::new(alloc)),
-        State::Pending | State::Rejected | State::Synced => told_html(alloc, status, since),
+        TypeState::NeverAsked => Ok(String::new(alloc)),
+        TypeState::Pending | TypeState::Rejected | TypeState::Synced => told_html(
+            alloc, status, since,
+        ),
     }
 }
 

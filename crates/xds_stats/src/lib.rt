@@ -26,13 +26,13 @@ pub use doors::Doors;
 pub use html::escaped;
 pub use latencies::Latencies;
 pub use log_event::{
-    FirstRequest, LogEvent, MOST_SHOWN, Maker, Place, Rejection, excerpt, number_text,
+    FirstRequest, LogEvent, MOST_SHOWN, Maker, Rejection, StreamPlace, excerpt, number_text,
 };
-pub use look::{Look, look_in};
-pub use metrics::{Kind, Metrics, seconds_text};
+pub use look::{ReplicaSizes, look_in};
+pub use metrics::{MetricKind, Metrics, seconds_text};
 pub use moment::{Moment, millis_now, utc_text};
 pub use numbers::{Numbers, RestCounts, StreamCounts};
-pub use pages::{Shown, numbers_text};
+pub use pages::{ReplicaNumbers, numbers_text};
 pub use responses::{responses_json, warnings_html};
 pub use sizes::{Ceiling, MOST_BYTES, beyond_by, long_text, longest_bytes, refused_bytes};
-pub use state::State;
+pub use state::TypeState;

@@ -14,7 +14,7 @@ pub const MOST_SHOWN: usize = 256;
 
 /// A stream of a replica, both by their numbers.
 #[derive(Clone, Copy, Debug, PartialEq, Eq)]
-pub struct Place {
+pub struct StreamPlace {
     pub replica: u16,
     pub stream: u64,
 }
@@ -70,25 +70,25 @@ pub enum LogEvent {
     /// A replica listens: its place among those of the server, its number, its port of streams, and that of REST.
     Listening(u16, u16, u16, u16),
     /// A connection was taken, from this address.
-    Connected(Place, String),
+    Connected(StreamPlace, String),
     /// The first request of a stream.
-    FirstRequest(Place, FirstRequest),
+    FirstRequest(StreamPlace, FirstRequest),
     /// A client rejects a response.
-    Rejected(Place, Rejection),
+    Rejected(StreamPlace, Rejection),
     /// A stream ended, by a refusal or without one.
-    Ended(Place, Option<Refusal>),
+    Ended(StreamPlace, Option<Refusal>),
     /// A connection was closed at once, since this replica has as many streams as it may.
     TurnedAway(u16),
     /// The journal of a replica couldn't be cut.
     CutFailed(u16, Refusal),
     /// A request asks for a type that isn't known, by this URL.
-    UnknownType(Place, String),
+    UnknownType(StreamPlace, String),
     /// A change is made at a replica, as a write of this stamp.
     Changed(u16, Maker, Stamp),
     /// An operator stops the server.
     Stopping,
     /// The first frame of a stream didn't come within so many seconds.
-    Idle(Place, u16),
+    Idle(StreamPlace, u16),
     /// The whole response of a type has so many bytes at a replica: half as many as a frame may have, or more.
     Long(u16, TypeName, u64),
 }
@@ -250,7 +250,7 @@ fn json_level(level: Level) -> &'static str
     }
 }
 
-fn unknown_text(alloc: Global, place: Place, type_url: &str) -> Result<String, Refusal>
+fn unknown_text(alloc: Global, place: StreamPlace, type_url: &str) -> Result<String, Refusal>
     ensures { IfOk result (λ t. string_bytes t ≡ place_text place ++ (codes "asks for a type that isn't known: \"" ++ (type_url.now ++ codes "\""))) }
 {
     let place = place_text(alloc, place)?;
@@ -258,7 +258,7 @@ fn unknown_text(alloc: Global, place: Place, type_url: &str) -> Result<String, R
     Ok(format!(in alloc; "{place}asks for a type that isn't known: \"{type_url}\"")?)
 }
 
-fn idle_text(alloc: Global, place: Place, seconds: u16) -> Result<String, Refusal>
+fn idle_text(alloc: Global, place: StreamPlace, seconds: u16) -> Result<String, Refusal>
     ensures { IfOk result (λ t. string_bytes t ≡ message_of (LogEvent.Idle place seconds)) }
 {
     let place = place_text(alloc, place)?;
@@ -266,7 +266,7 @@ fn idle_text(alloc: Global, place: Place, seconds: u16) -> Result<String, Refusa
     Ok(format!(in alloc; "{place}no first frame within {seconds} s")?)
 }
 
-fn idle_fields(alloc: Global, place: Place, seconds: u16) -> Result<String, Refusal>
+fn idle_fields(alloc: Global, place: StreamPlace, seconds: u16) -> Result<String, Refusal>
     ensures { IfOk result (λ t. string_bytes t ≡ fields_of (LogEvent.Idle place seconds)) }
 {
     let place = place_fields(alloc, place)?;
@@ -307,7 +307,7 @@ fn changed_text(alloc: Global, replica: u16, maker: Maker, stamp: Stamp) -> Resu
 }
 
 // Which stream of which replica, as members of an object behind others.
-fn place_fields(alloc: Global, place: Place) -> Result<String, Refusal>
+fn place_fields(alloc: Global, place: StreamPlace) -> Result<String, Refusal>
     ensures { IfOk result (λ t. string_bytes t ≡ place_fields place) }
 {
     let replica = place.replica;
@@ -338,7 +338,7 @@ fn listening_fields(
     )?)
 }
 
-fn connected_fields(alloc: Global, place: Place, peer: &str) -> Result<String, Refusal>
+fn connected_fields(alloc: Global, place: StreamPlace, peer: &str) -> Result<String, Refusal>
     ensures { IfOk result (λ t. string_bytes t ≡ place_fields place ++ (codes ",\"peer\":" ++ quoted peer.now)) }
 {
     let place = place_fields(alloc, place)?;
@@ -348,7 +348,7 @@ fn connected_fields(alloc: Global, place: Place, peer: &str) -> Result<String, R
     Ok(format!(in alloc; "{place},\"peer\":{peer}")?)
 }
 
-fn first_fields(alloc: Global, place: Place, first: &FirstRequest) -> Result<String, Refusal>
+fn first_fields(alloc: Global, place: StreamPlace, first: &FirstRequest) -> Result<String, Refusal>
     ensures { IfOk result (λ t. string_bytes t ≡ first_fields place first.now) }
 {
     let place = place_fields(alloc, place)?;
@@ -365,7 +365,11 @@ fn first_fields(alloc: Global, place: Place, first: &FirstRequest) -> Result<Str
     )?)
 }
 
-fn rejected_fields(alloc: Global, place: Place, rejection: &Rejection) -> Result<String, Refusal>
+fn rejected_fields(
+    alloc: Global,
+    place: StreamPlace,
+    rejection: &Rejection,
+) -> Result<String, Refusal>
     ensures { IfOk result (λ t. string_bytes t ≡ rejected_fields place rejection.now) }
 {
     let place = place_fields(alloc, place)?;
@@ -379,7 +383,11 @@ fn rejected_fields(alloc: Global, place: Place, rejection: &Rejection) -> Result
     Ok(format!(in alloc; "{place},\"type\":{type_url},\"nonce\":{nonce},\"reason\":{message}")?)
 }
 
-fn ended_fields(alloc: Global, place: Place, refusal: Option<Refusal>) -> Result<String, Refusal>
+fn ended_fields(
+    alloc: Global,
+    place: StreamPlace,
+    refusal: Option<Refusal>,
+) -> Result<String, Refusal>
     ensures { IfOk result (λ t. string_bytes t ≡ ended_fields place refusal) }
 {
     let mut text = place_fields(alloc, place)?;
@@ -404,7 +412,7 @@ fn cut_fields(alloc: Global, replica: u16, refusal: Refusal) -> Result<String, R
     Ok(format!(in alloc; ",\"replica\":{replica}{reason}")?)
 }
 
-fn unknown_fields(alloc: Global, place: Place, type_url: &str) -> Result<String, Refusal>
+fn unknown_fields(alloc: Global, place: StreamPlace, type_url: &str) -> Result<String, Refusal>
     ensures { IfOk result (λ t. string_bytes t ≡ place_fields place ++ (codes ",\"type\":" ++ quoted type_url.now)) }
 {
     let place = place_fields(alloc, place)?;
@@ -467,7 +475,7 @@ fn listening_text(
 }
 
 // Which stream of which replica.
-fn place_text(alloc: Global, place: Place) -> Result<String, Refusal>
+fn place_text(alloc: Global, place: StreamPlace) -> Result<String, Refusal>
     ensures { IfOk result (λ t. string_bytes t ≡ place_text place) }
 {
     let replica = place.replica;
@@ -475,7 +483,7 @@ fn place_text(alloc: Global, place: Place) -> Result<String, Refusal>
     Ok(format!(in alloc; "replica {replica}, stream {stream}: ")?)
 }
 
-fn connected_text(alloc: Global, place: Place, peer: &str) -> Result<String, Refusal>
+fn connected_text(alloc: Global, place: StreamPlace, peer: &str) -> Result<String, Refusal>
     ensures { IfOk result (λ t. string_bytes t ≡ place_text place ++ codes "connected from " ++ peer.now) }
 {
     let mut text = place_text(alloc, place)?;
@@ -491,7 +499,7 @@ fn variant_word(is_delta: bool) -> &'static str
     if is_delta { "delta" } else { "sotw" }
 }
 
-fn first_text(alloc: Global, place: Place, first: &FirstRequest) -> Result<String, Refusal>
+fn first_text(alloc: Global, place: StreamPlace, first: &FirstRequest) -> Result<String, Refusal>
     ensures { IfOk result (λ t. string_bytes t ≡ first_text place first.now) }
 {
     let place = place_text(alloc, place)?;
@@ -505,7 +513,11 @@ fn first_text(alloc: Global, place: Place, first: &FirstRequest) -> Result<Strin
     )?)
 }
 
-fn rejected_text(alloc: Global, place: Place, rejection: &Rejection) -> Result<String, Refusal>
+fn rejected_text(
+    alloc: Global,
+    place: StreamPlace,
+    rejection: &Rejection,
+) -> Result<String, Refusal>
     ensures { IfOk result (λ t. string_bytes t ≡ rejected_text place rejection.now) }
 {
     let place = place_text(alloc, place)?;
@@ -518,7 +530,11 @@ fn rejected_text(alloc: Global, place: Place, rejection: &Rejection) -> Result<S
     )?)
 }
 
-fn ended_text(alloc: Global, place: Place, refusal: Option<Refusal>) -> Result<String, Refusal>
+fn ended_text(
+    alloc: Global,
+    place: StreamPlace,
+    refusal: Option<Refusal>,
+) -> Result<String, Refusal>
     ensures { IfOk result (λ t. string_bytes t ≡ ended_text place refusal) }
 {
     let mut text = place_text(alloc, place)?;

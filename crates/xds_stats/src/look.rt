@@ -12,7 +12,7 @@ use xds_resource::{Refusal, ResourceType, TypeName, Write};
 
 /// How much a replica holds of a type.
 #[derive(Clone, Copy, Debug, PartialEq, Eq)]
-pub struct Held {
+pub struct TypeSizes {
     /// How many changes there were.
     pub changes: u64,
     /// How many resources are live.
@@ -25,20 +25,20 @@ pub struct Held {
 
 /// How much a replica holds, of each type.
 #[derive(Clone, Copy, Debug, PartialEq, Eq)]
-pub struct Look {
-    pub cluster: Held,
-    pub endpoint: Held,
-    pub listener: Held,
-    pub route: Held,
-    pub secret: Held,
+pub struct ReplicaSizes {
+    pub cluster: TypeSizes,
+    pub endpoint: TypeSizes,
+    pub listener: TypeSizes,
+    pub route: TypeSizes,
+    pub secret: TypeSizes,
 }
 
-impl Look {
+impl ReplicaSizes {
     ghost use Rattle.std.specs.Prelude.{◌≡◌};
     ghost use Rattle.xds_stats.specs.Looks.{held_at};
 
     /// What is held of a type.
-    pub fn of(&self, kind: TypeName) -> Held
+    pub fn of(&self, kind: TypeName) -> TypeSizes
         ensures { result ≡ held_at self.now kind }
     {
         match kind {
@@ -52,7 +52,7 @@ impl Look {
 }
 
 // Counts one entry more.
-fn count<T: ResourceType>(held: Held, write: &Write<T>) -> Held
+fn count<T: ResourceType>(held: TypeSizes, write: &Write<T>) -> TypeSizes
     ensures { result ≡ counted_more write.now held }
 {
     let mut held = held;
@@ -64,10 +64,10 @@ fn count<T: ResourceType>(held: Held, write: &Write<T>) -> Held
 }
 
 // How much is held of a type, by all its entries, but for the bytes of a response.
-fn held_by_count<T: ResourceType>(changes: u64, writes: &[Write<T>]) -> Held
+fn held_by_count<T: ResourceType>(changes: u64, writes: &[Write<T>]) -> TypeSizes
     ensures { result ≡ held_by_count changes writes.now }
 {
-    let mut held = Held {
+    let mut held = TypeSizes {
         changes,
         resources: 0,
         tombstones: 0,
@@ -85,7 +85,7 @@ fn held_of<T: ResourceType>(
     replica: u16,
     changes: u64,
     writes: &[Write<T>],
-) -> Result<Held, Refusal>
+) -> Result<TypeSizes, Refusal>
     ensures ok { IfOk result (λ h. h ≡ held_of T.TYPE replica changes writes.now) }
     ensures refused { IfErr result (λ e. e ≡ Refusal.OutOfMemory) }
 {
@@ -95,7 +95,12 @@ fn held_of<T: ResourceType>(
 }
 
 /// How much is held at the replica of this number where all entries are these, and there were so many changes.
-pub fn look_of(alloc: Global, replica: u16, batch: &Batch, marks: Marks) -> Result<Look, Refusal>
+pub fn look_of(
+    alloc: Global,
+    replica: u16,
+    batch: &Batch,
+    marks: Marks,
+) -> Result<ReplicaSizes, Refusal>
     ensures cluster { IfOk result (λ l. l.cluster ≡ held_of types.Cluster replica marks.cluster batch.now.cluster) }
     ensures endpoint { IfOk result (λ l. l.endpoint ≡ held_of types.Endpoint replica marks.endpoint batch.now.endpoint) }
     ensures listener { IfOk result (λ l. l.listener ≡ held_of types.Listener replica marks.listener batch.now.listener) }
@@ -103,7 +108,7 @@ pub fn look_of(alloc: Global, replica: u16, batch: &Batch, marks: Marks) -> Resu
     ensures secret { IfOk result (λ l. l.secret ≡ held_of types.Secret replica marks.secret batch.now.secret) }
     ensures refused { IfErr result (λ e. e ≡ Refusal.OutOfMemory) }
 {
-    Ok(Look {
+    Ok(ReplicaSizes {
         cluster: held_of(alloc, replica, marks.cluster, batch.cluster.as_slice())?,
         endpoint: held_of(alloc, replica, marks.endpoint, batch.endpoint.as_slice())?,
         listener: held_of(alloc, replica, marks.listener, batch.listener.as_slice())?,
@@ -113,7 +118,7 @@ pub fn look_of(alloc: Global, replica: u16, batch: &Batch, marks: Marks) -> Resu
 }
 
 /// What a reply says of all that is held at the replica of this number, if it does.
-pub fn look_in(alloc: Global, replica: u16, reply: &Reply) -> Result<Look, Refusal> {
+pub fn look_in(alloc: Global, replica: u16, reply: &Reply) -> Result<ReplicaSizes, Refusal> {
     match reply {
         Reply::Changed(batch, marks) => look_of(alloc, replica, batch, *marks),
         _ => Err(Refusal::OutOfMemory),

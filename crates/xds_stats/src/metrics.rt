@@ -7,7 +7,7 @@ use xds_resource::Refusal;
 
 /// What a number does.
 #[derive(Clone, Copy, Debug, PartialEq, Eq)]
-pub enum Kind {
+pub enum MetricKind {
     /// It only rises.
     Counter,
     /// It rises and falls.
@@ -16,15 +16,15 @@ pub enum Kind {
     Histogram,
 }
 
-impl Kind {
+impl MetricKind {
     // Its word in the format.
     fn word(self) -> &'static str
         ensures { result.now ≡ kind_word self }
     {
         match self {
-            Kind::Counter => "counter",
-            Kind::Gauge => "gauge",
-            Kind::Histogram => "histogram",
+            MetricKind::Counter => "counter",
+            MetricKind::Gauge => "gauge",
+            MetricKind::Histogram => "histogram",
         }
     }
 }
@@ -48,7 +48,7 @@ impl Metrics {
     }
 
     /// Says what the numbers of a name are, in a sentence of one line without a backslash, and what they do.
-    pub fn about(&mut self, name: &str, help: &str, kind: Kind) -> Result<(), Refusal>
+    pub fn about(&mut self, name: &str, help: &str, kind: MetricKind) -> Result<(), Refusal>
         ensures { OnOk result (string_bytes self.new.text ≡ string_bytes self.old.text ++ help_line name.now help.now kind) }
     {
         let kind = kind.word();

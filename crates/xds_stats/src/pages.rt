@@ -5,17 +5,17 @@ ghost use Rattle.xds_stats.specs.Pages.{counted_number, held_number, labelled, l
 use crate::counts::TypeCounts;
 use crate::latencies;
 use crate::latencies::add_latencies;
-use crate::look::{Held, Look};
-use crate::metrics::{Kind, Metrics, seconds_text};
+use crate::look::{ReplicaSizes, TypeSizes};
+use crate::metrics::{MetricKind, Metrics, seconds_text};
 use crate::numbers::Numbers;
 use std::alloc::Global;
 use xds_resource::{Refusal, TypeName};
 
 /// A replica in numbers: what it holds, where that is known, and what was counted of it.
 #[derive(Clone, Copy)]
-pub struct Shown {
+pub struct ReplicaNumbers {
     pub replica: u16,
-    pub look: Option<Look>,
+    pub look: Option<ReplicaSizes>,
     pub numbers: Numbers,
 }
 
@@ -67,18 +67,19 @@ impl OfType {
         }
     }
 
-    fn kind(self) -> Kind
+    fn kind(self) -> MetricKind
         ensures { result ≡ type_kind self }
     {
         match self {
-            OfType::Resources | OfType::Tombstones | OfType::Bytes => Kind::Gauge,
-            OfType::Changes | OfType::Responses | OfType::Acks | OfType::Nacks => Kind::Counter,
+            OfType::Resources | OfType::Tombstones | OfType::Bytes => MetricKind::Gauge,
+            OfType::Changes | OfType::Responses | OfType::Acks | OfType::Nacks =>
+                MetricKind::Counter,
         }
     }
 }
 
 // What is held of a type, if the number is of that.
-fn held_number(of: OfType, held: Held) -> Option<u64>
+fn held_number(of: OfType, held: TypeSizes) -> Option<u64>
     ensures { result ≡ held_number of held }
 {
     match of {
@@ -102,7 +103,7 @@ fn counted_number(of: OfType, counts: TypeCounts) -> Option<u64>
     }
 }
 
-impl Shown {
+impl ReplicaNumbers {
     ghost use Rattle.std.specs.Prelude.{◌≡◌};
     ghost use Rattle.xds_stats.specs.Pages.{replica_number, type_number};
 
@@ -143,7 +144,7 @@ fn add_type(
     alloc: Global,
     metrics: &mut Metrics,
     of: OfType,
-    shown: &Shown,
+    shown: &ReplicaNumbers,
     kind: TypeName,
 ) -> Result<(), Refusal>
     ensures { OnOk result (string_bytes metrics.new.text ≡ string_bytes metrics.old.text ++ type_line of shown.now kind) }
@@ -167,7 +168,7 @@ fn add_types_of(
     alloc: Global,
     metrics: &mut Metrics,
     of: OfType,
-    shown: &Shown,
+    shown: &ReplicaNumbers,
 ) -> Result<(), Refusal>
     ensures { OnOk result (string_bytes metrics.new.text ≡ with_types of (string_bytes metrics.old.text) shown.now) }
 {
@@ -182,7 +183,7 @@ fn add_types(
     alloc: Global,
     metrics: &mut Metrics,
     of: OfType,
-    replicas: &[Shown],
+    replicas: &[ReplicaNumbers],
 ) -> Result<(), Refusal>
     ensures { OnOk result (string_bytes metrics.new.text ≡ with_numbers_of of (string_bytes metrics.old.text) replicas.now) }
 {
@@ -243,7 +244,7 @@ impl OfReplica {
         }
     }
 
-    fn kind(self) -> Kind
+    fn kind(self) -> MetricKind
         ensures { result ≡ replica_kind self }
     {
         match self {
@@ -254,7 +255,7 @@ impl OfReplica {
             | OfReplica::FailedCuts
             | OfReplica::Parts
             | OfReplica::LostParts
-            | OfReplica::Refused => Kind::Counter,
+            | OfReplica::Refused => MetricKind::Counter,
         }
     }
 }
@@ -264,7 +265,7 @@ fn add_replica(
     alloc: Global,
     metrics: &mut Metrics,
     of: OfReplica,
-    shown: &Shown,
+    shown: &ReplicaNumbers,
 ) -> Result<(), Refusal>
     ensures { OnOk result (string_bytes metrics.new.text ≡ string_bytes metrics.old.text ++ replica_line of shown.now) }
 {
@@ -280,7 +281,7 @@ fn add_replicas(
     alloc: Global,
     metrics: &mut Metrics,
     of: OfReplica,
-    replicas: &[Shown],
+    replicas: &[ReplicaNumbers],
 ) -> Result<(), Refusal>
     ensures { OnOk result (string_bytes metrics.new.text ≡ with_number of (string_bytes metrics.old.text) replicas.now) }
 {
@@ -329,7 +330,11 @@ fn add_variant(
 }
 
 // Adds the open streams of a replica.
-fn add_streams_of(alloc: Global, metrics: &mut Metrics, shown: &Shown) -> Result<(), Refusal>
+fn add_streams_of(
+    alloc: Global,
+    metrics: &mut Metrics,
+    shown: &ReplicaNumbers,
+) -> Result<(), Refusal>
     ensures { OnOk result (string_bytes metrics.new.text ≡ with_streams (string_bytes metrics.old.text) shown.now) }
 {
     let streams = shown.numbers.streams;
@@ -338,13 +343,17 @@ fn add_streams_of(alloc: Global, metrics: &mut Metrics, shown: &Shown) -> Result
     add_variant(alloc, metrics, shown.replica, "none", streams.silent)
 }
 
-fn add_streams(alloc: Global, metrics: &mut Metrics, replicas: &[Shown]) -> Result<(), Refusal>
+fn add_streams(
+    alloc: Global,
+    metrics: &mut Metrics,
+    replicas: &[ReplicaNumbers],
+) -> Result<(), Refusal>
     ensures { OnOk result (string_bytes metrics.new.text ≡ with_all_streams (string_bytes metrics.old.text) replicas.now) }
 {
     metrics.about(
         "xds_streams",
         "Open streams, by the variant of the first request.",
-        Kind::Gauge,
+        MetricKind::Gauge,
     )?;
     for shown in replicas {
         add_streams_of(alloc, metrics, shown)?;
@@ -374,7 +383,7 @@ fn add_status(
 }
 
 // Adds the replies to polls over HTTP of a replica.
-fn add_polls_of(alloc: Global, metrics: &mut Metrics, shown: &Shown) -> Result<(), Refusal>
+fn add_polls_of(alloc: Global, metrics: &mut Metrics, shown: &ReplicaNumbers) -> Result<(), Refusal>
     ensures { OnOk result (string_bytes metrics.new.text ≡ with_polls (string_bytes metrics.old.text) shown.now) }
 {
     let rest = shown.numbers.rest;
@@ -385,13 +394,17 @@ fn add_polls_of(alloc: Global, metrics: &mut Metrics, shown: &Shown) -> Result<(
     add_status(alloc, metrics, shown.replica, "other", rest.other)
 }
 
-fn add_polls(alloc: Global, metrics: &mut Metrics, replicas: &[Shown]) -> Result<(), Refusal>
+fn add_polls(
+    alloc: Global,
+    metrics: &mut Metrics,
+    replicas: &[ReplicaNumbers],
+) -> Result<(), Refusal>
     ensures { OnOk result (string_bytes metrics.new.text ≡ with_all_polls (string_bytes metrics.old.text) replicas.now) }
 {
     metrics.about(
         "xds_rest_replies_total",
         "Replies to polls over HTTP, by their status.",
-        Kind::Counter,
+        MetricKind::Counter,
     )?;
     for shown in replicas {
         add_polls_of(alloc, metrics, shown)?;
@@ -399,7 +412,7 @@ fn add_polls(alloc: Global, metrics: &mut Metrics, replicas: &[Shown]) -> Result
     Ok(())
 }
 
-fn add_held(alloc: Global, metrics: &mut Metrics, shown: &[Shown]) -> Result<(), Refusal>
+fn add_held(alloc: Global, metrics: &mut Metrics, shown: &[ReplicaNumbers]) -> Result<(), Refusal>
     ensures { OnOk result (string_bytes metrics.new.text ≡ with_held (string_bytes metrics.old.text) shown.now) }
 {
     add_types(alloc, metrics, OfType::Changes, shown)?;
@@ -411,7 +424,11 @@ fn add_held(alloc: Global, metrics: &mut Metrics, shown: &[Shown]) -> Result<(),
     add_types(alloc, metrics, OfType::Nacks, shown)
 }
 
-fn add_journal(alloc: Global, metrics: &mut Metrics, shown: &[Shown]) -> Result<(), Refusal>
+fn add_journal(
+    alloc: Global,
+    metrics: &mut Metrics,
+    shown: &[ReplicaNumbers],
+) -> Result<(), Refusal>
     ensures { OnOk result (string_bytes metrics.new.text ≡ with_journals (string_bytes metrics.old.text) shown.now) }
 {
     add_replicas(alloc, metrics, OfReplica::Records, shown)?;
@@ -426,7 +443,7 @@ fn add_journal(alloc: Global, metrics: &mut Metrics, shown: &[Shown]) -> Result<
 const LAG: &str = "xds_put_to_last_response_seconds";
 
 // Adds how long after its last change a replica told a response, if it did.
-fn add_lag(alloc: Global, metrics: &mut Metrics, shown: &Shown) -> Result<(), Refusal>
+fn add_lag(alloc: Global, metrics: &mut Metrics, shown: &ReplicaNumbers) -> Result<(), Refusal>
     ensures { OnOk result (string_bytes metrics.new.text ≡ string_bytes metrics.old.text ++ lag_line shown.now) }
 {
     let Some(micros) = shown.numbers.lag else {
@@ -438,13 +455,17 @@ fn add_lag(alloc: Global, metrics: &mut Metrics, shown: &Shown) -> Result<(), Re
     metrics.add_text(LAG, labels.as_str(), seconds.as_str())
 }
 
-fn add_lags(alloc: Global, metrics: &mut Metrics, replicas: &[Shown]) -> Result<(), Refusal>
+fn add_lags(
+    alloc: Global,
+    metrics: &mut Metrics,
+    replicas: &[ReplicaNumbers],
+) -> Result<(), Refusal>
     ensures { OnOk result (string_bytes metrics.new.text ≡ with_all_lags (string_bytes metrics.old.text) replicas.now) }
 {
     metrics.about(
         LAG,
         "Time from the last change made at the replica to the last response there.",
-        Kind::Gauge,
+        MetricKind::Gauge,
     )?;
     for shown in replicas {
         add_lag(alloc, metrics, shown)?;
@@ -453,13 +474,17 @@ fn add_lags(alloc: Global, metrics: &mut Metrics, replicas: &[Shown]) -> Result<
 }
 
 // Adds how long puts took until streams accepted them.
-fn add_waits(alloc: Global, metrics: &mut Metrics, replicas: &[Shown]) -> Result<(), Refusal>
+fn add_waits(
+    alloc: Global,
+    metrics: &mut Metrics,
+    replicas: &[ReplicaNumbers],
+) -> Result<(), Refusal>
     ensures { OnOk result (string_bytes metrics.new.text ≡ with_all_waits (string_bytes metrics.old.text) replicas.now) }
 {
     metrics.about(
         "xds_put_to_accept_seconds",
         latencies::HELP,
-        Kind::Histogram,
+        MetricKind::Histogram,
     )?;
     for shown in replicas {
         add_latencies(alloc, metrics, shown.replica, shown.numbers.accepts)?;
@@ -468,7 +493,7 @@ fn add_waits(alloc: Global, metrics: &mut Metrics, replicas: &[Shown]) -> Result
 }
 
 /// All numbers of these replicas, in the text format of Prometheus.
-pub fn numbers_text(alloc: Global, replicas: &[Shown]) -> Result<String, Refusal>
+pub fn numbers_text(alloc: Global, replicas: &[ReplicaNumbers]) -> Result<String, Refusal>
     ensures { IfOk result (λ t. string_bytes t ≡ numbers_text replicas.now) }
 {
     let mut metrics = Metrics::new(alloc);

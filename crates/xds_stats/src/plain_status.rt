@@ -4,7 +4,7 @@ ghost use Rattle.xds_stats.specs.PlainStatus.{client_plain, detail_plain, reject
 
 use crate::board::Board;
 use crate::moment::utc_text;
-use crate::state::State;
+use crate::state::TypeState;
 use crate::status_text::variant_word;
 use crate::stream_status::{StreamStatus, TypeStatus};
 use std::alloc::Global;
@@ -88,8 +88,10 @@ fn detail_plain(alloc: Global, status: &TypeStatus, since: &str) -> Result<Strin
     ensures { IfOk result (λ t. string_bytes t ≡ detail_plain status.now since.now) }
 {
     match status.state() {
-        State::NeverAsked => Ok(String::new(alloc)),
-        State::Pending | State::Rejected | State::Synced => told_plain(alloc, status, since),
+        TypeState::NeverAsked => Ok(String::new(alloc)),
+        TypeState::Pending | TypeState::Rejected | TypeState::Synced => told_plain(
+            alloc, status, since,
+        ),
     }
 }
 

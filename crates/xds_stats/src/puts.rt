@@ -13,7 +13,7 @@ pub struct PutMark {
 
 /// The same of each type.
 #[derive(Clone, Copy)]
-pub struct Puts {
+pub struct PutCounts {
     pub cluster: PutMark,
     pub endpoint: PutMark,
     pub listener: PutMark,
@@ -24,13 +24,13 @@ pub struct Puts {
 // Nothing was made.
 const NOTHING: PutMark = PutMark { made: 0, at: None };
 
-impl Puts {
+impl PutCounts {
     ghost use Rattle.std.specs.Prelude.{◌≡◌};
     ghost use Rattle.xds_stats.specs.Latencies.{mark_at, marked_at};
 
     /// Nothing was made.
-    pub fn new() -> Puts {
-        Puts {
+    pub fn new() -> PutCounts {
+        PutCounts {
             cluster: NOTHING,
             endpoint: NOTHING,
             listener: NOTHING,

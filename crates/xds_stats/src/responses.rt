@@ -2,7 +2,7 @@
 ghost use Rattle.std.specs.Prelude.{◌≡◌, ◌++◌, string_bytes, IfOk, OnOk};
 ghost use Rattle.xds_stats.specs.Responses.{response_head, response_json, responses_json, warning_html, warning_json, warning_line, warnings_html, with_response};
 
-use crate::look::Look;
+use crate::look::ReplicaSizes;
 use crate::sizes::warning_of;
 use std::alloc::Global;
 use xds_resource::{Refusal, TypeName};
@@ -53,7 +53,7 @@ fn push_response(
 }
 
 /// How long the whole response of each type is, as a list of JSON, with a warning where it has half of what a frame may have, or more.
-pub fn responses_json(alloc: Global, look: &Look) -> Result<String, Refusal>
+pub fn responses_json(alloc: Global, look: &ReplicaSizes) -> Result<String, Refusal>
     ensures { IfOk result (λ t. string_bytes t ≡ responses_json look.now) }
 {
     let mut text = response_json(alloc, TypeName::Cluster, look.cluster.bytes)?;
@@ -95,7 +95,7 @@ fn push_warning(alloc: Global, text: &mut String, kind: TypeName, bytes: u64) ->
 }
 
 /// What is told of the lengths of whole responses, as HTML: nothing where each has less than half of what a frame may have.
-pub fn warnings_html(alloc: Global, look: &Look) -> Result<String, Refusal>
+pub fn warnings_html(alloc: Global, look: &ReplicaSizes) -> Result<String, Refusal>
     ensures { IfOk result (λ t. string_bytes t ≡ warnings_html look.now) }
 {
     let mut text = String::new(alloc);

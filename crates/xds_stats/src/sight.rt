@@ -9,14 +9,14 @@ use xds_resource::{Refusal, TypeName};
 
 /// How a request changes how many names a stream asks for.
 #[derive(Clone, Copy, Debug, PartialEq, Eq)]
-pub enum Names {
+pub enum NamesChange {
     /// It lists so many.
     Listed(u64),
     /// It asks for so many more, and no longer for so many.
     Edited(u64, u64),
 }
 
-impl Names {
+impl NamesChange {
     ghost use Rattle.std.specs.Prelude.{◌≡◌};
     ghost use Rattle.xds_stats.specs.Boards.{names_after};
 
@@ -25,8 +25,8 @@ impl Names {
         ensures { result ≡ names_after self before }
     {
         match self {
-            Names::Listed(count) => count,
-            Names::Edited(more, fewer) => before.saturating_add(more).saturating_sub(fewer),
+            NamesChange::Listed(count) => count,
+            NamesChange::Edited(more, fewer) => before.saturating_add(more).saturating_sub(fewer),
         }
     }
 }
@@ -40,7 +40,7 @@ pub struct Heard {
     pub type_url: String,
     /// The id and the cluster of its node, where it names one.
     pub node: Option<(String, String)>,
-    pub names: Names,
+    pub names: NamesChange,
     /// The nonce that it answers; empty where it answers none.
     pub nonce: String,
     /// What it says of the response that it rejects, if it rejects one.
@@ -94,7 +94,7 @@ fn heard_sotw(alloc: Global, request: &DiscoveryRequest) -> Result<Heard, Refusa
         kind: TypeName::from_url(request.type_url.as_str()),
         type_url: excerpt(alloc, request.type_url.as_str())?,
         node: node_texts(alloc, &request.node)?,
-        names: Names::Listed(request.resource_names.len() as u64),
+        names: NamesChange::Listed(request.resource_names.len() as u64),
         nonce: excerpt(alloc, request.response_nonce.as_str())?,
         rejection,
     })
@@ -112,7 +112,7 @@ fn heard_delta(alloc: Global, request: &DeltaDiscoveryRequest) -> Result<Heard, 
         kind: TypeName::from_url(request.type_url.as_str()),
         type_url: excerpt(alloc, request.type_url.as_str())?,
         node: node_texts(alloc, &request.node)?,
-        names: Names::Edited(more, fewer),
+        names: NamesChange::Edited(more, fewer),
         nonce: excerpt(alloc, request.response_nonce.as_str())?,
         rejection,
     })

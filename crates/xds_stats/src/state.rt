@@ -4,7 +4,7 @@ ghost use Rattle.xds_stats.specs.States.{since_after, state_by, state_word};
 
 /// How a stream stands of a type.
 #[derive(Clone, Copy, Debug, PartialEq, Eq)]
-pub enum State {
+pub enum TypeState {
     /// It didn't ask for it.
     NeverAsked,
     /// The last response isn't answered.
@@ -15,39 +15,39 @@ pub enum State {
     Synced,
 }
 
-impl State {
+impl TypeState {
     /// Its word.
     pub fn word(self) -> &'static str
         ensures { result.now ≡ state_word self }
     {
         match self {
-            State::NeverAsked => "NEVER ASKED",
-            State::Pending => "PENDING",
-            State::Rejected => "REJECTED",
-            State::Synced => "SYNCED",
+            TypeState::NeverAsked => "NEVER ASKED",
+            TypeState::Pending => "PENDING",
+            TypeState::Rejected => "REJECTED",
+            TypeState::Synced => "SYNCED",
         }
     }
 }
 
 /// How a stream stands that asked for a type or didn't, whose last answer is a rejection or isn't, and which has a response to answer or
 /// hasn't.
-pub(crate) fn state_by(is_asked: bool, is_rejected: bool, is_pending: bool) -> State
+pub(crate) fn state_by(is_asked: bool, is_rejected: bool, is_pending: bool) -> TypeState
     ensures { result ≡ state_by is_asked is_rejected is_pending }
 {
     if !is_asked {
-        return State::NeverAsked;
+        return TypeState::NeverAsked;
     }
     if is_rejected {
-        return State::Rejected;
+        return TypeState::Rejected;
     }
     if is_pending {
-        return State::Pending;
+        return TypeState::Pending;
     }
-    State::Synced
+    TypeState::Synced
 }
 
 /// Since when something is in a state, where it was in another since then, and is noted now.
-pub(crate) fn since_after(before: State, after: State, since: u64, now: u64) -> u64
+pub(crate) fn since_after(before: TypeState, after: TypeState, since: u64, now: u64) -> u64
     ensures { result ≡ since_after before after since now }
 {
     if before == after { since } else { now }

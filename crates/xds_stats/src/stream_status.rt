@@ -7,7 +7,7 @@ use crate::latencies::put_behind;
 use crate::log_event::excerpt;
 use crate::puts::PutMark;
 use crate::sight::Heard;
-use crate::state::{State, since_after, state_by};
+use crate::state::{TypeState, since_after, state_by};
 use std::alloc::Global;
 use std::time::Instant;
 use xds_ledger::VariantName;
@@ -69,7 +69,7 @@ impl TypeStatus {
     }
 
     /// How the stream stands.
-    pub fn state(&self) -> State
+    pub fn state(&self) -> TypeState
         ensures { result ≡ state_of self.now }
     {
         let is_pending = !self.is_answered && !self.nonce.as_str().is_empty();

@@ -10,7 +10,7 @@ pub const MOST_SLOTS: usize = 30;
 
 /// What was counted in a slot.
 #[derive(Clone, Copy, Debug, PartialEq, Eq)]
-pub struct Slot {
+pub struct TrendSlot {
     /// Its number: how many of its length passed before it since 1970.
     pub number: u64,
     pub puts: u64,
@@ -20,7 +20,7 @@ pub struct Slot {
 /// What was counted in the last slots in which something was, in order.
 #[derive(Drop)]
 pub struct Trend {
-    slots: Vec<Slot>,
+    slots: Vec<TrendSlot>,
 }
 
 impl Trend {
@@ -32,7 +32,7 @@ impl Trend {
     }
 
     // The slot of a moment, which is the last one. None where there is no memory.
-    fn at(&mut self, millis: u64) -> Option<&mut Slot> {
+    fn at(&mut self, millis: u64) -> Option<&mut TrendSlot> {
         let number = millis / SLOT_MILLISECONDS;
         let is_new = match self.slots.as_slice().last() {
             Some(last) => last.number < number,
@@ -42,7 +42,7 @@ impl Trend {
             if self.slots.len() >= MOST_SLOTS {
                 self.slots.remove(0);
             }
-            let slot = Slot {
+            let slot = TrendSlot {
                 number,
                 puts: 0,
                 responses: 0,

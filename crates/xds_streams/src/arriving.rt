@@ -197,26 +197,26 @@ impl KnownRead for Arriving {
 }
 
 /// How the line is awaited with which a connection may begin.
-pub(crate) struct Line {
+pub(crate) struct ArrivingLine {
     // Until when a line that has begun has to come whole.
     until: Option<Sleep>,
     is_begun: bool,
 }
 
 // Written out: docs/PROVING.md, "Drops".
-impl Drop for Line {
+impl Drop for ArrivingLine {
     fn drop(self) {
-        let Line {
+        let ArrivingLine {
             until: _,
             is_begun: _,
         } = self;
     }
 }
 
-impl Line {
+impl ArrivingLine {
     /// Nothing has come of it.
-    pub(crate) fn new() -> Line {
-        Line {
+    pub(crate) fn new() -> ArrivingLine {
+        ArrivingLine {
             until: None,
             is_begun: false,
         }

@@ -2,9 +2,9 @@
 ghost use Rattle.futures.specs.Task.{IsArmed, Keeps};
 ghost use Rattle.futures.specs.Poll.{OnPending};
 
-use crate::arriving::{Arriving, Line};
+use crate::arriving::{Arriving, ArrivingLine};
 use crate::gate::{NoGate, WriterGate};
-use crate::parting::Rest;
+use crate::parting::LastResponses;
 use futures::Future;
 use futures::task::{Context, Poll};
 use std::alloc::Global;
@@ -63,21 +63,21 @@ impl<'a, R, A> Around<'a, R, A> {
 }
 
 /// The half of a stream that reads and asks.
-pub(crate) struct Asks<S> {
+pub(crate) struct AskingHalf<S> {
     pub seat: S,
     pub decoder: Decoder,
     pub reader: Counted<Arriving>,
     /// The line that may stand before all frames, until it has come or can't come any more.
-    pub line: Option<Line>,
+    pub line: Option<ArrivingLine>,
     /// Whether the gate was passed for the next read.
     pub passed: bool,
     pub has_ended: bool,
 }
 
 // Written out: docs/PROVING.md, "Drops".
-impl<S: Drop> Drop for Asks<S> {
+impl<S: Drop> Drop for AskingHalf<S> {
     fn drop(self) {
-        let Asks {
+        let AskingHalf {
             seat: _,
             decoder: _,
             reader: _,
@@ -120,10 +120,10 @@ impl<'a, S: Drop> Drop for Tells<'a, S> {
 /// A stream that is open.
 pub(crate) struct OpenStream<'a, S> {
     pub stream: u64,
-    pub asks: Asks<S>,
+    pub asks: AskingHalf<S>,
     pub tells: Tells<'a, S>,
     /// What was due when its client sent no more.
-    pub rest: Rest,
+    pub rest: LastResponses,
     /// Until when that has to be taken.
     pub until: Option<Sleep>,
     /// How it has ended, as far as it has. The first refusal is the stream's.

@@ -10,16 +10,16 @@ use xds_node::{ByPolls, Host, Writes, called, draft_in};
 use xds_resource::Refusal;
 
 /// What was due at the end of a stream, in its order, how much of that is begun, and why a response that was due isn't among it.
-pub(crate) struct Rest {
+pub(crate) struct LastResponses {
     drafts: Vec<Draft>,
     begun: usize,
     refusal: Option<Refusal>,
 }
 
 // Written out: docs/PROVING.md, "Drops".
-impl Drop for Rest {
+impl Drop for LastResponses {
     fn drop(self) {
-        let Rest {
+        let LastResponses {
             drafts: _,
             begun: _,
             refusal: _,
@@ -27,10 +27,10 @@ impl Drop for Rest {
     }
 }
 
-impl Rest {
+impl LastResponses {
     /// Nothing.
-    pub(crate) fn new(alloc: Global) -> Rest {
-        Rest {
+    pub(crate) fn new(alloc: Global) -> LastResponses {
+        LastResponses {
             drafts: Vec::new(alloc),
             begun: 0,
             refusal: None,

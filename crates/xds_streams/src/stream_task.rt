@@ -2,10 +2,10 @@
 ghost use Rattle.futures.specs.Task.{IsArmed, Keeps};
 ghost use Rattle.futures.specs.Poll.{OnPending};
 
-use crate::arriving::{Arriving, Line};
+use crate::arriving::{Arriving, ArrivingLine};
 use crate::gate::{NoGate, WriterGate};
-use crate::open_stream::{Around, Asks, OpenStream, Tells, poll_stream};
-use crate::parting::Rest;
+use crate::open_stream::{Around, AskingHalf, OpenStream, Tells, poll_stream};
+use crate::parting::LastResponses;
 use futures::Future;
 use futures::task::{Context, Poll};
 use std::alloc::Global;
@@ -149,7 +149,7 @@ impl<'a, R: Wait + Clock, A: Served> StreamTask<'a, R, A, A::Seat> {
                 telling,
                 writer,
             ),
-            rest: Rest::new(around.alloc),
+            rest: LastResponses::new(around.alloc),
             until: None,
             ended: Ok(()),
         });
@@ -206,12 +206,12 @@ fn asks_of<S: Drop>(
     seat: S,
     reader: OwnedReadHalf,
     until: Option<Sleep>,
-) -> Asks<S> {
-    Asks {
+) -> AskingHalf<S> {
+    AskingHalf {
         seat,
         decoder: Decoder::new(alloc),
         reader: Counted::new(Arriving::new(alloc, reader, until)),
-        line: Some(Line::new()),
+        line: Some(ArrivingLine::new()),
         passed: false,
         has_ended: false,
     }

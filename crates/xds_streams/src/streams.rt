@@ -39,7 +39,7 @@ const WORKERS: usize = 2;
 const PAUSE_MILLISECONDS: u64 = 10;
 
 /// Serves connections.
-pub(crate) trait Serves: Drop {
+pub(crate) trait ServesStreams: Drop {
     ghost use Rattle.std.specs.Prelude.{IfSome};
 
     type Task: Future<Output = ()>;
@@ -111,7 +111,7 @@ fn serve_by<R, F, S>(
 where
     R: Wait + Threads + Clock + RandomSource + AllocGlobal + Sync,
     F: Future<Output = ()> + Send,
-    S: Serves<Task = F>,
+    S: ServesStreams<Task = F>,
 {
     let tasks = runtime.task_set(rt)?;
     let accepting = Accepting {
@@ -124,7 +124,7 @@ where
     runtime.block_on_with(rt, &tasks, accepting)
 }
 
-impl<'a, R: Wait + Clock, A: Served> Serves for Around<'a, R, A> {
+impl<'a, R: Wait + Clock, A: Served> ServesStreams for Around<'a, R, A> {
     type Task = StreamTask<'a, R, A, A::Seat>;
 
     // None where there is no memory, or there are as many streams as there may be.
@@ -187,7 +187,7 @@ impl<'b, F: Future, S: Drop> Drop for Accepting<'b, F, S> {
     }
 }
 
-impl<'b, F: Future<Output = ()>, S: Serves<Task = F>> Accepting<'b, F, S> {
+impl<'b, F: Future<Output = ()>, S: ServesStreams<Task = F>> Accepting<'b, F, S> {
     // Serves a connection, or closes it.
     fn serve(&self, socket: TcpStream) {
         let Some(task) = self.server.task(socket) else {
@@ -253,7 +253,7 @@ impl<'b, F: Future<Output = ()>, S: Serves<Task = F>> Accepting<'b, F, S> {
     }
 }
 
-impl<'b, F: Future<Output = ()>, S: Serves<Task = F>> Future for Accepting<'b, F, S> {
+impl<'b, F: Future<Output = ()>, S: ServesStreams<Task = F>> Future for Accepting<'b, F, S> {
     type Output = ();
 
     fn poll(&mut self, cx: &mut Context<'_>) -> Poll<()> {

@@ -13,13 +13,13 @@ use Rattle.std.specs.Str.{trim}
 use Rattle.std.specs.Duration.{as_nanos}
 use Rattle.xds_frames.specs.Devices.{Device, Stays}
 use Rattle.xds_resource.specs.declared.refusal.Refusal.TheVariants.{NotFound, OutOfMemory}
-use Rattle.xds_machine.specs.declared.port_client.Request.{Request}
+use Rattle.xds_machine.specs.declared.port_client.PortRequest.{PortRequest}
 use Rattle.xds_notes.specs.Endings.{TellsLine, refusal_line}
 use Rattle.xds_program.specs.Outcomes.{Prints}
 use Rattle.xds_stats.specs.Logging.{excerpt}
 use Rattle.xds_tools.specs.Messages.{refused_by_line, why_refused}
-use Rattle.xds_tools.specs.declared.asking.Asked.{Asked}
-use Rattle.xds_tools.specs.declared.asking.Asked.TheVariants.{Text, Resources, Changes}
+use Rattle.xds_tools.specs.declared.asking.AskedOfPort.{AskedOfPort}
+use Rattle.xds_tools.specs.declared.asking.AskedOfPort.TheVariants.{Text, Resources, Changes}
 use Rattle.xds_tools.specs.declared.asking.Shown.{Shown}
 use Rattle.xds_tools.specs.declared.asking.Shown.TheVariants.{Body, Nothing, Refused}
 
@@ -29,7 +29,7 @@ text_shown status = if status == 200 then Body 0 else Refused
 
 -- what is shown of an answer of this status, whose body is empty or isn't; of changes the body also where some are refused (207), all are
 -- (422), or none is stored (507)
-abbrev pub shown_of : Asked → ℕ → Bool → Shown
+abbrev pub shown_of : AskedOfPort → ℕ → Bool → Shown
 shown_of Text status is_empty = text_shown status
 shown_of Resources status is_empty = if (status == 200) && is_empty then Nothing else text_shown status
 shown_of Changes status is_empty = if (status == 207) || (status == 422) || (status == 507) then Body 1 else text_shown status
@@ -50,7 +50,7 @@ ShowsBy Nothing answered body status output errors = Stays output × TellsLast (
 ShowsBy Refused answered body status output errors = Stays output × TellsWhy answered body status errors
 
 -- the same by what is asked for
-abbrev pub Shows : Asked → ℕ → List ℕ → ℕ → Device → Device → Type 0
+abbrev pub Shows : AskedOfPort → ℕ → List ℕ → ℕ → Device → Device → Type 0
 Shows asked answered body status output errors = ShowsBy (shown_of asked answered (length body == 0)) answered body status output errors
 
 -- as many bytes of an answer as are taken
@@ -65,6 +65,6 @@ abbrev pub change_seconds : ℕ
 change_seconds = 660
 
 -- a request of this method at this target, with this body, which says no token, and has so many seconds
-abbrev pub IsRequest : List ℕ → List ℕ → List ℕ → ℕ → Request → Type 0
+abbrev pub IsRequest : List ℕ → List ℕ → List ℕ → ℕ → PortRequest → Type 0
 IsRequest method target body seconds r =
     (r.method.now ≡ method) × (r.target.now ≡ target) × (r.bearer ≡ None) × (r.body.now ≡ body) × (as_nanos r.time ≡ seconds * 1000000000) × (r.most ≡ most_answer)

@@ -35,12 +35,12 @@ use Rattle.xds_client.specs.declared.subscription.StreamVariant as streams
 use Rattle.xds_client.specs.declared.subscription.StreamVariant.TheVariants as variants
 use Rattle.xds_client.specs.declared.subscription.Subscription.{Subscription}
 use Rattle.xds_client.specs.Running.{IsUndialled, Runs, RunsBy}
-use Rattle.xds_client.specs.declared.connecting.Ended.{Ended}
+use Rattle.xds_client.specs.declared.connecting.ConnectingEnd.{ConnectingEnd}
 use Rattle.xds_client.specs.Subscribing.{names_of}
 use Rattle.xds_program.specs.declared.run.Ran.{Ran}
 use Rattle.xds_program.specs.declared.run.Ran.TheVariants.{Done, Serve, Client, Poll, Writes, Status, Get, Put, Delete, Drawn}
-use Rattle.xds_program.specs.declared.tasks.StreamVariant.{StreamVariant}
-use Rattle.xds_program.specs.declared.tasks.StreamVariant.TheVariants.{Sotw, Delta}
+use Rattle.xds_program.specs.declared.tasks.AskedVariant.{AskedVariant}
+use Rattle.xds_program.specs.declared.tasks.AskedVariant.TheVariants.{Sotw, Delta}
 use Rattle.xds_program.specs.Outcomes.{Prints, refusal_line}
 use Rattle.xds_program.specs.Tasks.{Look, Watch}
 
@@ -87,7 +87,7 @@ EndsPoll tells look status output errors =
     (r : Result Told Refusal) × IsPolled (tells (V4 look.addr) look.seconds) (question_of look) r × ShowsInTime look.seconds r status output errors
 
 -- the variant of a client's stream
-abbrev pub variant_of : StreamVariant → streams.StreamVariant
+abbrev pub variant_of : AskedVariant → streams.StreamVariant
 variant_of Sotw = variants.Sotw
 variant_of Delta = variants.Delta
 
@@ -115,7 +115,7 @@ HasEnded task (Err e) status errors = (status ≡ 1) × TellsEnd task.seconds e 
 -- `xds client`: the client of its task ran over what one call connected it to at the task's address, and its end is told
 abbrev pub EndsClientBy : {R W : Type 0} → (SocketAddrV4 → Result (R × W) Refusal → Type 0) → (R → Option (List ℕ)) → (W → Option (List ℕ)) → Watch → ℕ → Device → Device → Type 0
 EndsClientBy {R} {W} dialled remaining contents task status output errors =
-    (s : Subscription) × (ended : Ended R W) × IsOf task s × RunsBy (dialled task.addr) remaining contents s ended output × HasEnded task ended.answer status errors
+    (s : Subscription) × (ended : ConnectingEnd R W) × IsOf task s × RunsBy (dialled task.addr) remaining contents s ended output × HasEnded task ended.answer status errors
 
 -- a client over a connection, of which nothing is known but how its calls ended; or without one
 abbrev pub RanSomewhere : {T : Type 0} → Subscription → Result T Refusal → Device → Type 0

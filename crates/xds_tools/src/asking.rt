@@ -15,8 +15,8 @@ use std::rt::Files;
 use std::time::Duration;
 use xds_frames::Counted;
 use xds_machine::machine::Machine;
-use xds_machine::port_client::{Request, Unanswered, answered, whole_answer};
-use xds_port::{Answer, changes_target, delete_lines, resources_target};
+use xds_machine::port_client::{PortRequest, Unanswered, answered, whole_answer};
+use xds_port::{PortAnswer, changes_target, delete_lines, resources_target};
 use xds_program::run::{REFUSED, print};
 use xds_program::{DeleteTask, GetTask, PutTask, StatusTask};
 use xds_resource::Refusal;
@@ -39,7 +39,7 @@ const BLOCK: usize = 16_384;
 
 /// What is asked for.
 #[derive(Clone, Copy, Debug, PartialEq, Eq)]
-pub enum Asked {
+pub enum AskedOfPort {
     /// A text that there always is.
     Text,
     /// What replicas hold, of which there may be nothing.
@@ -61,19 +61,19 @@ pub enum Shown {
 
 /// What is shown of an answer of this status, whose body is empty or isn't: of changes the body also where some of them are refused, or
 /// none is stored.
-pub fn shown_of(asked: Asked, status: u16, is_empty: bool) -> Shown
+pub fn shown_of(asked: AskedOfPort, status: u16, is_empty: bool) -> Shown
     ensures { result ≡ shown_of asked status is_empty }
 {
     match asked {
-        Asked::Text => text_shown(status),
-        Asked::Resources => {
+        AskedOfPort::Text => text_shown(status),
+        AskedOfPort::Resources => {
             if status == 200 && is_empty {
                 Shown::Nothing
             } else {
                 text_shown(status)
             }
         }
-        Asked::Changes => {
+        AskedOfPort::Changes => {
             if status == 207 || status == 422 || status == 507 {
                 Shown::Body(1)
             } else {
@@ -118,11 +118,18 @@ where
         addr: task.addr,
         token: &task.token,
     };
-    ask(rt, port, status_request(), Asked::Text, output, errors)
+    ask(
+        rt,
+        port,
+        status_request(),
+        AskedOfPort::Text,
+        output,
+        errors,
+    )
 }
 
 // A request for how streams stand.
-fn status_request() -> Request<'static>
+fn status_request() -> PortRequest<'static>
     ensures { IsRequest (codes "GET") (codes "/status.txt") (codes "") look_seconds result }
 {
     looking("/status.txt")
@@ -149,7 +156,7 @@ where
     match resources_target(alloc, task.replica, task.kind, task.names.as_slice()) {
         Ok(target) => {
             let request = looking(target.as_str());
-            ask(rt, port, request, Asked::Resources, output, errors)
+            ask(rt, port, request, AskedOfPort::Resources, output, errors)
         }
         Err(refusal) => tell(alloc, errors, refusal),
     }
@@ -183,7 +190,7 @@ where
     };
     let target = changes_target(task.dry_run, task.all_or_nothing);
     let request = posting(target, body.as_slice());
-    ask(rt, port, request, Asked::Changes, output, errors)
+    ask(rt, port, request, AskedOfPort::Changes, output, errors)
 }
 
 /// Posts the deletions of some names to a server, all or none of which are made, prints what becomes of each, and answers the status.
@@ -213,14 +220,14 @@ where
         token: &task.token,
     };
     let request = posting(changes_target(task.dry_run, true), lines.as_bytes());
-    ask(rt, port, request, Asked::Changes, output, errors)
+    ask(rt, port, request, AskedOfPort::Changes, output, errors)
 }
 
 // A request that changes nothing.
-fn looking(target: &str) -> Request<'_>
+fn looking(target: &str) -> PortRequest<'_>
     ensures { IsRequest (codes "GET") target.now (codes "") look_seconds result }
 {
-    Request {
+    PortRequest {
         method: "GET",
         target,
         bearer: None,
@@ -231,10 +238,10 @@ fn looking(target: &str) -> Request<'_>
 }
 
 // A request that makes changes.
-fn posting<'a>(target: &'a str, body: &'a [u8]) -> Request<'a>
+fn posting<'a>(target: &'a str, body: &'a [u8]) -> PortRequest<'a>
     ensures { IsRequest (codes "POST") target.now body.now change_seconds result }
 {
-    Request {
+    PortRequest {
         method: "POST",
         target,
         bearer: None,
@@ -248,8 +255,8 @@ fn posting<'a>(target: &'a str, body: &'a [u8]) -> Request<'a>
 fn ask<R, O, E>(
     rt: &R,
     port: Port<'_>,
-    request: Request<'_>,
-    asked: Asked,
+    request: PortRequest<'_>,
+    asked: AskedOfPort,
     output: &mut Counted<O>,
     errors: &mut Counted<E>,
 ) -> u8
@@ -286,9 +293,9 @@ where
 fn ask_as<R, O, E>(
     rt: &R,
     addr: SocketAddrV4,
-    request: Request<'_>,
+    request: PortRequest<'_>,
     bearer: &Option<String>,
-    asked: Asked,
+    asked: AskedOfPort,
     output: &mut Counted<O>,
     errors: &mut Counted<E>,
 ) -> u8
@@ -340,7 +347,7 @@ fn show_answer<O: Write, E: Write>(
     alloc: Global,
     addr: SocketAddrV4,
     bytes: &[u8],
-    asked: Asked,
+    asked: AskedOfPort,
     output: &mut Counted<O>,
     errors: &mut Counted<E>,
 ) -> u8
@@ -355,8 +362,8 @@ fn show_answer<O: Write, E: Write>(
 // Shows an answer, and answers the status.
 fn show<O: Write, E: Write>(
     alloc: Global,
-    answer: Answer<'_>,
-    asked: Asked,
+    answer: PortAnswer<'_>,
+    asked: AskedOfPort,
     output: &mut Counted<O>,
     errors: &mut Counted<E>,
 ) -> u8
@@ -371,7 +378,7 @@ fn show<O: Write, E: Write>(
 fn show_by<O: Write, E: Write>(
     alloc: Global,
     shown: Shown,
-    answer: Answer<'_>,
+    answer: PortAnswer<'_>,
     output: &mut Counted<O>,
     errors: &mut Counted<E>,
 ) -> u8
@@ -385,7 +392,7 @@ fn show_by<O: Write, E: Write>(
 }
 
 // Tells an answer by its status, with what its body says, and answers the status of the program.
-fn tell_why<E: Write>(alloc: Global, answer: Answer<'_>, errors: &mut Counted<E>) -> u8
+fn tell_why<E: Write>(alloc: Global, answer: PortAnswer<'_>, errors: &mut Counted<E>) -> u8
     ensures { TellsWhy answer.entry.status answer.entry.body.now result (seen E.contents errors.old errors.new) }
 {
     match excerpt(alloc, answer.body.trim()) {

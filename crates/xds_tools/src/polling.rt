@@ -13,7 +13,7 @@ use std::random::RandomSource;
 use std::sync::Wait;
 use std::time::Clock;
 use xds_frames::Counted;
-use xds_http::{Posts, Question, Told, poll_by};
+use xds_http::{PostsRequests, Question, Told, poll_by};
 use xds_machine::deadline::Deadline;
 use xds_program::PollTask;
 use xds_program::run::{DONE, print, tell};
@@ -30,7 +30,7 @@ pub fn poll_once<R, P, O, E>(
 ) -> u8
 where
     R: Wait + Clock + Net + RandomSource + AllocGlobal,
-    P: Posts,
+    P: PostsRequests,
     O: Write,
     E: Write,
     ensures { EndsPoll P.tells task result (seen O.contents output.old output.new) (seen E.contents errors.old errors.new) }

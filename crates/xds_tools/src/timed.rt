@@ -2,7 +2,7 @@
 ghost use Rattle.std.specs.Prelude.{◌≡◌, true, false, if◌then◌else◌, IfSome, Some};
 ghost use Rattle.xds_tools.specs.Ends.{begins_http};
 
-use crate::watching::Hears;
+use crate::watching::HearsPeer;
 use std::alloc::Global;
 use std::io;
 use std::io::{ErrorKind, Read};
@@ -113,7 +113,7 @@ impl<'a, C: Clock> Read for TimedReader<'a, C> {
     }
 }
 
-impl<'a, C: Clock> Hears for TimedReader<'a, C> {
+impl<'a, C: Clock> HearsPeer for TimedReader<'a, C> {
     fn speaks_http(&self) -> bool
         ensures { result ≡ self.now.speaks_http }
     {

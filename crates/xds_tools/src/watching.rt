@@ -9,15 +9,15 @@ use std::alloc::{AllocGlobal, Global};
 use std::io::Write;
 use std::net::{Net, TcpStream};
 use std::time::Clock;
-use xds_client::{Dials, Ended, Subscription, run_at};
+use xds_client::{ConnectingEnd, Dials, Subscription, run_at};
 use xds_frames::Counted;
 use xds_machine::deadline::Deadline;
 use xds_program::run::DONE;
-use xds_program::{ClientTask, StreamVariant};
+use xds_program::{AskedVariant, ClientTask};
 use xds_resource::Refusal;
 
 /// What a reader knows of the other end.
-pub trait Hears {
+pub trait HearsPeer {
     /// Whether the other end answers HTTP.
     fn speaks_http(&self) -> bool;
 }
@@ -52,7 +52,7 @@ pub fn watch_by<C, D, O, E>(
 ) -> u8
 where
     C: Clock + AllocGlobal,
-    D: Dials<Reader: Hears>,
+    D: Dials<Reader: HearsPeer>,
     O: Write,
     E: Write,
     ensures { EndsClientBy (D.dials dials.old dials.new) D.Reader.remaining D.Writer.contents task.now result (seen O.contents output.old output.new) (seen E.contents errors.old errors.new) }
@@ -73,7 +73,7 @@ where
 }
 
 // Whether the other end of a client's connection answers HTTP, where there is one.
-fn speaks_http<R: Hears, W>(ended: &Ended<R, W>) -> bool {
+fn speaks_http<R: HearsPeer, W>(ended: &ConnectingEnd<R, W>) -> bool {
     match &ended.ends {
         Some((reader, _)) => reader.inner.speaks_http(),
         None => false,
@@ -133,11 +133,11 @@ fn tell_why<R: Clock, E: Write>(
 }
 
 // The variant as a client on a stream knows it.
-fn variant_of(variant: StreamVariant) -> xds_client::StreamVariant
+fn variant_of(variant: AskedVariant) -> xds_client::StreamVariant
     ensures { result ≡ variant_of variant }
 {
     match variant {
-        StreamVariant::Sotw => xds_client::StreamVariant::Sotw,
-        StreamVariant::Delta => xds_client::StreamVariant::Delta,
+        AskedVariant::Sotw => xds_client::StreamVariant::Sotw,
+        AskedVariant::Delta => xds_client::StreamVariant::Delta,
     }
 }

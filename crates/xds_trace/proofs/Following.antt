@@ -24,7 +24,7 @@ use Rattle.xds_check.specs.Lines.{write_at}
 use Rattle.xds_check.specs.Rules.{KeepsRules, AllKeep}
 use Rattle.xds_trace.specs.Making.{Naming, IsCalled, any_write, write_line, answered_lines}
 use Rattle.xds_trace.proofs.Writes.{Holds, holds_unwritten}
-use Rattle.xds_trace.proofs.Hearing.{IsNew, IsSilent, Follows, follows_after, new_after, silent_write, silent_open, silent_close}
+use Rattle.xds_trace.proofs.StreamLines.{IsNew, IsSilent, Follows, follows_after, new_after, silent_write, silent_open, silent_close}
 
 -- what a replica is, and what the lines say of it
 pub record Keeps (named : Naming) (c : Core) (ls : List Line) : Type 0 where

@@ -25,7 +25,7 @@ use Rattle.xds_check.specs.declared.line.Line.TheVariants as lines
 use Rattle.xds_check.specs.Rules.{KeepsRules, AllKeep}
 use Rattle.xds_trace.specs.Making.{Naming, IsCalled, IsWellNamed, asking_of, answer_of, write_line, batch_lines, answered_lines}
 use Rattle.xds_trace.proofs.Writes.{holds_one, holds_merged}
-use Rattle.xds_trace.proofs.Hearing.{silent_request, silent_response, silent_idle}
+use Rattle.xds_trace.proofs.StreamLines.{silent_request, silent_response, silent_idle}
 use Rattle.xds_trace.proofs.StreamRequests.{follows_requested}
 use Rattle.xds_trace.proofs.StreamPolls.{polled_some, polled_none}
 use Rattle.xds_trace.proofs.StreamAnswers.{idle_keeps}

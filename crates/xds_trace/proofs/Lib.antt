@@ -3,7 +3,7 @@ pub mod Pending
 pub mod Agreeing
 pub mod Requests
 pub mod Writes
-pub mod Hearing
+pub mod StreamLines
 pub mod Offering
 pub mod Answering
 pub mod DeltaAnswers

@@ -29,7 +29,7 @@ use Rattle.xds_check.specs.Answers as answers
 use Rattle.xds_check.specs.Streams.{open_at, open_on, delta_at, delta_on, is_same, may_speak, may_follow, AllFollow}
 use Rattle.xds_trace.specs.Making as making
 use Rattle.xds_trace.specs.Making.{Naming, asking_of, write_line}
-use Rattle.xds_trace.proofs.Hearing.{itself, of_another}
+use Rattle.xds_trace.proofs.StreamLines.{itself, of_another}
 use Rattle.xds_trace.proofs.StreamRequests.{own_request, same_variant}
 use Rattle.xds_trace.proofs.StreamPolls.{IsPolled}
 use Rattle.xds_trace.proofs.Following.{some_same, not_above}

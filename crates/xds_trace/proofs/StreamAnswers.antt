@@ -44,7 +44,7 @@ use Rattle.xds_trace.proofs.Accounts.{Tells, told_sent, waits_as}
 use Rattle.xds_trace.proofs.Pending.{IsUntold}
 use Rattle.xds_trace.proofs.Agreeing.{Agrees}
 use Rattle.xds_trace.proofs.Writes.{Holds, held_is, held_catalogue}
-use Rattle.xds_trace.proofs.Hearing.{Hears, IsHeard, IsCounted, Follows, AgreesAfter, agrees_after, itself, interest_kept}
+use Rattle.xds_trace.proofs.StreamLines.{Hears, IsHeard, IsCounted, Follows, AgreesAfter, agrees_after, itself, interest_kept}
 use Rattle.xds_trace.proofs.Offering.{present_by}
 use Rattle.xds_trace.proofs.Answering.{IsKept, sotw_right, sotw_tells}
 use Rattle.xds_trace.proofs.DeltaAnswers.{delta_right, delta_removed, delta_tells}

@@ -25,7 +25,7 @@ use Rattle.xds_check.specs.Lines.{Asks, Nothing, turn, has_asked, sent, taken, i
 use Rattle.xds_trace.specs.Making.{asking_of}
 use Rattle.xds_trace.proofs.Agreeing.{Agrees, agrees_unopened, asked_agrees}
 use Rattle.xds_trace.proofs.Requests.{sotw_names_agree, delta_names_agree}
-use Rattle.xds_trace.proofs.Hearing.{IsUnheard, Hears, IsHeard, Follows, AgreesAfter, agrees_after, counted_after, itself, interest_kept}
+use Rattle.xds_trace.proofs.StreamLines.{IsUnheard, Hears, IsHeard, Follows, AgreesAfter, agrees_after, counted_after, itself, interest_kept}
 
 -- ---- a request as a trace has it
 

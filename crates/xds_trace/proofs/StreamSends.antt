@@ -19,7 +19,7 @@ use Rattle.xds_check.specs.Answers.{Answer}
 use Rattle.xds_check.specs.Rules.{KeepsRules}
 use Rattle.xds_trace.specs.Making.{Naming, answer_of}
 use Rattle.xds_trace.proofs.Writes.{Holds}
-use Rattle.xds_trace.proofs.Hearing.{Hears, IsHeard, IsCounted, Follows}
+use Rattle.xds_trace.proofs.StreamLines.{Hears, IsHeard, IsCounted, Follows}
 use Rattle.xds_trace.proofs.Judging.{IsSent, offer_is}
 use Rattle.xds_trace.proofs.StreamPolls.{IsDue, IsPolled}
 use Rattle.xds_trace.proofs.StreamAnswers.{is_sent, wanted_is, answer_keeps, follows_sent}

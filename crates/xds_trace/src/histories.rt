@@ -10,9 +10,9 @@ ghost use Rattle.xds_trace.specs.Joined.{pieces_records, all_records, AddsTo, Ad
 use crate::bases::what_is_held_could_be_read;
 use crate::telling::push_record;
 use std::alloc::Global;
-use xds_check::{Line as TraceLine, Trace};
+use xds_check::{Line, Trace};
 use xds_core::Core;
-use xds_node::{History, Line, NodeName, Segment};
+use xds_node::{History, JournalLine, NodeName, Segment};
 use xds_resource::Refusal;
 
 // rule: cuts
@@ -48,8 +48,8 @@ fn all_lines<N: NodeName>(
     alloc: Global,
     segments: &[Segment<N>],
     base: &Core,
-    last: &[Line],
-) -> Result<Vec<TraceLine>, Refusal>
+    last: &[JournalLine],
+) -> Result<Vec<Line>, Refusal>
     requires { IsLegal base.now last.now }
     ensures { AddsAll [] (λ v. v.items) (pieces_records segments.now ++ last.now) result }
 {
@@ -68,7 +68,7 @@ fn all_lines<N: NodeName>(
 // Adds the lines of segments, one after another.
 fn push_segments<N: NodeName>(
     alloc: Global,
-    lines: &mut Vec<TraceLine>,
+    lines: &mut Vec<Line>,
     segments: &[Segment<N>],
 ) -> Result<(), Refusal>
     ensures { AddsAll lines.old.items (λ _. lines.new.items) (pieces_records segments.now) result }
@@ -85,9 +85,9 @@ fn push_segments<N: NodeName>(
 // Adds the lines of records that were made from this base. They can all be told, so that it refuses only for memory.
 fn push_legal(
     alloc: Global,
-    lines: &mut Vec<TraceLine>,
+    lines: &mut Vec<Line>,
     base: &Core,
-    records: &[Line],
+    records: &[JournalLine],
 ) -> Result<(), Refusal>
     requires { IsLegal base.now records.now }
     ensures { AddsAll lines.old.items (λ _. lines.new.items) records.now result }
@@ -102,7 +102,7 @@ fn push_legal(
 }
 
 // Adds the lines of records.
-fn push_lines(alloc: Global, lines: &mut Vec<TraceLine>, records: &[Line]) -> Result<(), Refusal>
+fn push_lines(alloc: Global, lines: &mut Vec<Line>, records: &[JournalLine]) -> Result<(), Refusal>
     ensures { AddsTo lines.old.items (λ _. lines.new.items) records.now result }
 {
     for line in records {

@@ -18,7 +18,7 @@ use xds_check::Trace;
 use xds_core::{Core, Event, Record, Reply};
 use xds_frames::{Counted, gather, write_whole};
 use xds_message::Draft;
-use xds_node::{History, Line, NodeName, Segment};
+use xds_node::{History, JournalLine, NodeName, Segment};
 use xds_resource::Refusal;
 
 // How many bytes are gathered before they are written.
@@ -55,7 +55,7 @@ pub fn write_history<N: NodeName, W: Write>(
 fn write_legal<W: Write>(
     alloc: Global,
     base: &Core,
-    records: &[Line],
+    records: &[JournalLine],
     writer: &mut Counted<W>,
 ) -> Result<(), Refusal>
     requires { IsLegal base.now records.now }
@@ -73,7 +73,7 @@ fn write_legal<W: Write>(
 // Writes the lines of records.
 fn write_records<W: Write>(
     alloc: Global,
-    records: &[Line],
+    records: &[JournalLine],
     writer: &mut Counted<W>,
 ) -> Result<(), Refusal>
     ensures { WritesTold (seen W.contents writer.old writer.new) records.now result }

@@ -13,7 +13,7 @@ use std::test::Fail;
 use std::thread::{Threads, join};
 use xds_core::Event;
 use xds_frames::{FrameKind, write_frame};
-use xds_node::{Host, Line, MOST_RECORDS, Node, NodeName, Opened};
+use xds_node::{Host, JournalLine, MOST_RECORDS, NodeName, Opened, SharedNode};
 use xds_resource::Refusal;
 
 const WITH_A: &[u8] = b"{\"nonce\":\"1\",\
@@ -139,13 +139,13 @@ where
 fn unread<N: NodeName + Send + Sync, R: Threads + Machine + Sync>(
     rt: &R,
     alloc: Global,
-    opened: Opened<Line>,
+    opened: Opened<JournalLine>,
     bytes: &[u8],
 ) -> Result<((Served, Served), Full), Refusal>
     requires name { opened ≡ N.id }
     requires number { 1 ≡ N.replica }
 {
-    unread_and_full(rt, alloc, Node::<N>::new(alloc, opened, 1), bytes)
+    unread_and_full(rt, alloc, SharedNode::<N>::new(alloc, opened, 1), bytes)
 }
 
 // That this response was written to a stream, and that this ended well.
@@ -183,7 +183,7 @@ fn held_nobody(alloc: Global, came: &((Served, Served), Full)) -> Result<(), Fai
 #[test]
 fn a_peer_that_never_reads_holds_nobody_else(rt: HostRuntime) -> Result<(), Fail> {
     let input = write_frame(rt.alloc(), FrameKind::DiscoveryRequest, REQUEST)?;
-    let opened = Opened::<Line>::new(rt.alloc())?;
+    let opened = Opened::<JournalLine>::new(rt.alloc())?;
     let came = unread::<Brand, _>(&rt, rt.alloc(), opened, &input)?;
     let held = held_nobody(rt.alloc(), &came);
     drop(came);
@@ -229,13 +229,13 @@ where
 fn half<N: NodeName + Send + Sync, R: Threads + Machine + Sync>(
     rt: &R,
     alloc: Global,
-    opened: Opened<Line>,
+    opened: Opened<JournalLine>,
     bytes: &[u8],
 ) -> Result<((Served, Served), u64), Refusal>
     requires name { opened ≡ N.id }
     requires number { 1 ≡ N.replica }
 {
-    half_and_cut(rt, alloc, Node::<N>::new(alloc, opened, 1), bytes)
+    half_and_cut(rt, alloc, SharedNode::<N>::new(alloc, opened, 1), bytes)
 }
 
 // The other stream was served before, and whole. This one ended well, too.
@@ -252,7 +252,7 @@ fn was_cut(alloc: Global, came: &((Served, Served), u64)) -> Result<(), Fail> {
 #[test]
 fn half_a_frame_holds_nobody_else_while_a_node_is_cut(rt: HostRuntime) -> Result<(), Fail> {
     let input = write_frame(rt.alloc(), FrameKind::DiscoveryRequest, REQUEST)?;
-    let opened = Opened::<Line>::new(rt.alloc())?;
+    let opened = Opened::<JournalLine>::new(rt.alloc())?;
     let came = half::<Brand, _>(&rt, rt.alloc(), opened, &input)?;
     let held = was_cut(rt.alloc(), &came);
     drop(came);

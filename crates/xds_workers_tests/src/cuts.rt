@@ -9,7 +9,7 @@ use std::sync::Wait;
 use std::test::Fail;
 use std::thread::{Threads, map_vec};
 use xds_core::Event;
-use xds_node::{History, Host, Line, Node, NodeName, Opened, Seat, Segment};
+use xds_node::{History, Host, JournalLine, NodeName, Opened, Seat, Segment, SharedNode};
 use xds_resource::Refusal;
 
 const SEATS: usize = 4;
@@ -58,11 +58,11 @@ trait Closing: Site {
     fn is_complete(left: &Self::Left) -> bool;
 }
 
-impl<N: NodeName> Closing for Node<N> {
+impl<N: NodeName> Closing for SharedNode<N> {
     type Left = History<N>;
 
     fn close(self, seats: Vec<Seat<N>>) -> History<N> {
-        Node::close(self, seats)
+        SharedNode::close(self, seats)
     }
 
     fn is_complete(left: &History<N>) -> bool {
@@ -260,18 +260,18 @@ where
 fn four_seats<N: NodeName + Send + Sync, R: Threads + Wait + Sync>(
     rt: &R,
     alloc: Global,
-    opened: Opened<Line>,
+    opened: Opened<JournalLine>,
 ) -> Result<Outcome, Refusal>
     requires name { opened ≡ N.id }
     requires number { 1 ≡ N.replica }
 {
-    four(rt, alloc, Node::<N>::new(alloc, opened, 1))
+    four(rt, alloc, SharedNode::<N>::new(alloc, opened, 1))
 }
 
 // rule: one-seat, rule: cuts
 #[test]
 fn records_of_four_threads_are_numbered_once(rt: HostRuntime) -> Result<(), Fail> {
-    let opened = Opened::<Line>::new(rt.alloc())?;
+    let opened = Opened::<JournalLine>::new(rt.alloc())?;
     let outcome = four_seats::<Brand, _>(&rt, rt.alloc(), opened)?;
     assert!(rt; outcome.once, "no number is there twice");
     assert!(rt; outcome.all, "there are all from 1 to 200,000");

@@ -14,8 +14,8 @@ use std::thread::{Threads, join};
 use xds_core::Marks;
 use xds_exchange::{Incoming, Outgoing, link};
 use xds_node::{
-    Ended, Host, Line, Node, NodeName, Opened, Parcel, Receipt, exchange_both, exchange_in,
-    exchange_out,
+    Ended, Host, JournalLine, NodeName, Opened, Parcel, Receipt, SharedNode, exchange_both,
+    exchange_in, exchange_out,
 };
 use xds_resource::Refusal;
 
@@ -150,15 +150,15 @@ pub(crate) fn outcome_of<A: Site, B: Site, R: Wait>(
 /// Two nodes with these names.
 pub(crate) fn two<M: NodeName, N: NodeName>(
     alloc: Global,
-    first: Opened<Line>,
-    second: Opened<Line>,
-) -> Result<(Node<M>, Node<N>), Refusal>
+    first: Opened<JournalLine>,
+    second: Opened<JournalLine>,
+) -> Result<(SharedNode<M>, SharedNode<N>), Refusal>
     requires first { (first ≡ M.id) × (1 ≡ M.replica) }
     requires second { (second ≡ N.id) × (2 ≡ N.replica) }
 {
     both(
-        Node::<M>::new(alloc, first, 1),
-        Node::<N>::new(alloc, second, 2),
+        SharedNode::<M>::new(alloc, first, 1),
+        SharedNode::<N>::new(alloc, second, 2),
     )
 }
 
@@ -175,13 +175,13 @@ fn holds_two<A: Site, R: Wait>(rt: &R, alloc: Global, node: &A) -> Result<(), Re
 fn tells_stopped<M: NodeName + Send + Sync, N: NodeName + Send + Sync, R: Threads + Wait + Sync>(
     rt: &R,
     alloc: Global,
-    from: &Node<M>,
-    to: &Node<N>,
+    from: &SharedNode<M>,
+    to: &SharedNode<N>,
 ) -> Result<Done, Refusal> {
     holds_two(rt, alloc, from)?;
     let parcels = link(alloc)?;
     let receipts = link(alloc)?;
-    let (teller, merger) = both(Node::seat(from, rt), Node::seat(to, rt))?;
+    let (teller, merger) = both(SharedNode::seat(from, rt), SharedNode::seat(to, rt))?;
     let done = exchange_both(
         rt,
         alloc,
@@ -196,8 +196,8 @@ fn tells_stopped<M: NodeName + Send + Sync, N: NodeName + Send + Sync, R: Thread
 fn exchange_stopped<M: NodeName + Send + Sync, N: NodeName + Send + Sync, R: Threads + Wait + Sync>(
     rt: &R,
     alloc: Global,
-    first: Opened<Line>,
-    second: Opened<Line>,
+    first: Opened<JournalLine>,
+    second: Opened<JournalLine>,
 ) -> Result<Exchanged, Refusal>
     requires first { (first ≡ M.id) × (1 ≡ M.replica) }
     requires second { (second ≡ N.id) × (2 ≡ N.replica) }
@@ -236,8 +236,8 @@ fn told_b(outcome: &Exchanged) -> Result<(), Fail> {
 // rule: marks
 #[test]
 fn what_a_stopped_node_holds_comes_to_another(rt: HostRuntime) -> Result<(), Fail> {
-    let first = Opened::<Line>::new(rt.alloc())?;
-    let second = Opened::<Line>::new(rt.alloc())?;
+    let first = Opened::<JournalLine>::new(rt.alloc())?;
+    let second = Opened::<JournalLine>::new(rt.alloc())?;
     let outcome = exchange_stopped::<Brand, Brand, _>(&rt, rt.alloc(), first, second)?;
     told_b(&outcome)
 }
@@ -350,8 +350,8 @@ where
 fn exchange_shortly<M: NodeName + Send + Sync, N: NodeName + Send + Sync, R: Threads + Wait + Sync>(
     rt: &R,
     alloc: Global,
-    first: Opened<Line>,
-    second: Opened<Line>,
+    first: Opened<JournalLine>,
+    second: Opened<JournalLine>,
     count: u64,
 ) -> Result<(Exchanged, u64), Refusal>
     requires first { (first ≡ M.id) × (1 ≡ M.replica) }
@@ -363,8 +363,8 @@ fn exchange_shortly<M: NodeName + Send + Sync, N: NodeName + Send + Sync, R: Thr
 // rule: cuts
 #[test]
 fn a_hundred_parcels_pass_where_the_journals_are_short(rt: HostRuntime) -> Result<(), Fail> {
-    let first = Opened::<Line>::new(rt.alloc())?;
-    let second = Opened::<Line>::new(rt.alloc())?;
+    let first = Opened::<JournalLine>::new(rt.alloc())?;
+    let second = Opened::<JournalLine>::new(rt.alloc())?;
     let (outcome, cuts) = exchange_shortly::<Brand, Brand, _>(&rt, rt.alloc(), first, second, 100)?;
     told_all(&outcome, 0)?;
     assert!(rt; cuts == 3, "there were 100 merges, and room for 30");

@@ -15,7 +15,7 @@ use std::time::{Clock, Duration};
 use xds_core::{Event, Marks, Request};
 use xds_exchange::{Incoming, Outgoing, link};
 use xds_message::DeltaDiscoveryRequest;
-use xds_node::{Due, Host, Line, Node, NodeName, Opened, Seat};
+use xds_node::{Host, JournalLine, NodeName, Opened, Seat, SharedNode, WaitEnd};
 use xds_resource::Refusal;
 
 // How often a thread looks before it gives up, and how long it sleeps before each look: ten seconds
@@ -132,8 +132,8 @@ struct Deeds {
 fn waits<A: Host, R: Wait>(rt: &R, node: &A, awaited: Awaited, done: &Flag) -> End {
     let end = match awaited {
         Awaited::Stream(stream) => match node.wait_due(rt, stream) {
-            Due::Ready => End::Ready,
-            Due::Closed => End::Closed,
+            WaitEnd::Ready => End::Ready,
+            WaitEnd::Closed => End::Closed,
         },
         Awaited::Change(seen) => match node.wait_changed(rt, seen) {
             Some(_) => End::Changed,
@@ -273,13 +273,13 @@ where
 fn waited_by<N: NodeName + Send + Sync, R: Threads + Wait + Clock + Sync>(
     rt: &R,
     alloc: Global,
-    opened: Opened<Line>,
+    opened: Opened<JournalLine>,
     case: Case,
 ) -> Result<Waited, Refusal>
     requires name { opened ≡ N.id }
     requires number { 1 ≡ N.replica }
 {
-    waited_at(rt, alloc, Node::<N>::new(alloc, opened, 1), case)
+    waited_at(rt, alloc, SharedNode::<N>::new(alloc, opened, 1), case)
 }
 
 // Fails unless a wait ends so: by the first thing that is done, or before that where the node was
@@ -290,7 +290,7 @@ fn ends<R: Threads + Wait + Clock + Sync>(
     case: Case,
     end: End,
 ) -> Result<(), Fail> {
-    let opened = Opened::<Line>::new(alloc)?;
+    let opened = Opened::<JournalLine>::new(alloc)?;
     let waited = waited_by::<Brand, _>(rt, alloc, opened, case)?;
     holds(waited.early == case.is_stopped, "nothing was done yet")?;
     holds(waited.came, "who waits is let go")?;
@@ -381,7 +381,7 @@ enum Part<S> {
 fn puts_for_all<N: NodeName, R: Wait + Clock>(
     rt: &R,
     alloc: Global,
-    node: &Node<N>,
+    node: &SharedNode<N>,
     seat: Seat<N>,
     tally: &Tally,
 ) -> Result<bool, Refusal> {
@@ -401,7 +401,7 @@ fn puts_for_all<N: NodeName, R: Wait + Clock>(
 fn plays<N: NodeName, R: Wait + Clock>(
     rt: &R,
     alloc: Global,
-    node: &Node<N>,
+    node: &SharedNode<N>,
     part: Part<Seat<N>>,
     tally: &Tally,
 ) -> Result<bool, Refusal> {
@@ -419,7 +419,7 @@ fn plays<N: NodeName, R: Wait + Clock>(
 fn parts<N: NodeName, R: Wait>(
     rt: &R,
     alloc: Global,
-    node: &Node<N>,
+    node: &SharedNode<N>,
     writers: u64,
 ) -> Result<Vec<Part<Seat<N>>>, Refusal> {
     let mut seat = node.seat(rt)?;
@@ -438,7 +438,7 @@ fn parts<N: NodeName, R: Wait>(
 fn all_go<N: NodeName + Send + Sync, R: Threads + Wait + Clock + Sync>(
     rt: &R,
     alloc: Global,
-    node: &Node<N>,
+    node: &SharedNode<N>,
     writers: u64,
 ) -> Result<bool, Refusal> {
     let parts = parts(rt, alloc, node, writers)?;
@@ -455,12 +455,12 @@ fn all_go<N: NodeName + Send + Sync, R: Threads + Wait + Clock + Sync>(
 fn many_go<N: NodeName + Send + Sync, R: Threads + Wait + Clock + Sync>(
     rt: &R,
     alloc: Global,
-    opened: Opened<Line>,
+    opened: Opened<JournalLine>,
 ) -> Result<(bool, bool), Refusal>
     requires name { opened ≡ N.id }
     requires number { 1 ≡ N.replica }
 {
-    let node = Node::<N>::new(alloc, opened, 1)?;
+    let node = SharedNode::<N>::new(alloc, opened, 1)?;
     let many = all_go(rt, alloc, &node, WRITERS)?;
     let one = all_go(rt, alloc, &node, 1)?;
     Ok((many, one))
@@ -469,7 +469,7 @@ fn many_go<N: NodeName + Send + Sync, R: Threads + Wait + Clock + Sync>(
 // rule: wake-ups
 #[test]
 fn a_put_lets_more_writers_go_than_it_wakes(rt: HostRuntime) -> Result<(), Fail> {
-    let opened = Opened::<Line>::new(rt.alloc())?;
+    let opened = Opened::<JournalLine>::new(rt.alloc())?;
     let (many, one) = many_go::<Brand, _>(&rt, rt.alloc(), opened)?;
     assert!(rt; many, "each writer that is woken wakes the next");
     assert!(rt; one, "who went isn't woken in the place of who waits");

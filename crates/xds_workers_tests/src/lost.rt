@@ -16,7 +16,7 @@ use std::test::Fail;
 use std::thread::{Threads, join};
 use xds_exchange::{Incoming, Outgoing, link};
 use xds_frames::{FrameKind, write_frame};
-use xds_node::{Host, Line, NodeName, Opened, Parcel, Receipt, exchange_in};
+use xds_node::{Host, JournalLine, NodeName, Opened, Parcel, Receipt, exchange_in};
 use xds_resource::Refusal;
 
 // Puts two batches of one parcel each, and then no more.
@@ -127,8 +127,8 @@ fn put_twice<A: Site, B: Site, R: Wait>(
 fn lost_once<M: NodeName, N: NodeName, R: Wait>(
     rt: &R,
     alloc: Global,
-    first: Opened<Line>,
-    second: Opened<Line>,
+    first: Opened<JournalLine>,
+    second: Opened<JournalLine>,
 ) -> Result<Twice, Refusal>
     requires first { (first ≡ M.id) × (1 ≡ M.replica) }
     requires second { (second ≡ N.id) × (2 ≡ N.replica) }
@@ -139,8 +139,8 @@ fn lost_once<M: NodeName, N: NodeName, R: Wait>(
 // rule: marks
 #[test]
 fn a_merge_without_a_record_is_receipted_as_lost(rt: HostRuntime) -> Result<(), Fail> {
-    let first = Opened::<Line>::new(rt.alloc())?;
-    let second = Opened::<Line>::new(rt.alloc())?;
+    let first = Opened::<JournalLine>::new(rt.alloc())?;
+    let second = Opened::<JournalLine>::new(rt.alloc())?;
     let outcome = lost_once::<Brand, Brand, _>(&rt, rt.alloc(), first, second)?;
     assert!(rt; outcome.dropped == 1, "the first parcel was dropped");
     assert!(rt;
@@ -225,8 +225,8 @@ where
 fn lost_and_told<M: NodeName + Send + Sync, N: NodeName + Send + Sync, R: Threads + Wait + Sync>(
     rt: &R,
     alloc: Global,
-    first: Opened<Line>,
-    second: Opened<Line>,
+    first: Opened<JournalLine>,
+    second: Opened<JournalLine>,
 ) -> Result<(Exchanged, Batches), Refusal>
     requires first { (first ≡ M.id) × (1 ≡ M.replica) }
     requires second { (second ≡ N.id) × (2 ≡ N.replica) }
@@ -237,8 +237,8 @@ fn lost_and_told<M: NodeName + Send + Sync, N: NodeName + Send + Sync, R: Thread
 // rule: marks
 #[test]
 fn what_is_lost_is_told_again_at_once(rt: HostRuntime) -> Result<(), Fail> {
-    let first = Opened::<Line>::new(rt.alloc())?;
-    let second = Opened::<Line>::new(rt.alloc())?;
+    let first = Opened::<JournalLine>::new(rt.alloc())?;
+    let second = Opened::<JournalLine>::new(rt.alloc())?;
     let (outcome, batches) = lost_and_told::<Brand, Brand, _>(&rt, rt.alloc(), first, second)?;
     let told = told_all(&outcome, 1);
     drop(outcome);

@@ -4,7 +4,7 @@ use crate::sites::Site;
 use futures::task::{Context, Poll};
 use std::sync::{Mutex, Wait};
 use xds_core::{Event, Marks, Reply};
-use xds_node::{Due, Host, MOST_RECORDS, Unrecorded};
+use xds_node::{Host, MOST_RECORDS, Unrecorded, WaitEnd};
 use xds_resource::Refusal;
 
 #[derive(Drop)]
@@ -95,11 +95,11 @@ impl<A: Host> Host for Short<A> {
         Ok(Some(segment))
     }
 
-    fn wait_due<R: Wait>(&self, rt: &R, stream: u64) -> Due {
+    fn wait_due<R: Wait>(&self, rt: &R, stream: u64) -> WaitEnd {
         self.node.wait_due(rt, stream)
     }
 
-    fn poll_due<R: Wait>(&self, rt: &R, cx: &mut Context<'_>, stream: u64) -> Poll<Due> {
+    fn poll_due<R: Wait>(&self, rt: &R, cx: &mut Context<'_>, stream: u64) -> Poll<WaitEnd> {
         self.node.poll_due(rt, cx, stream)
     }
 

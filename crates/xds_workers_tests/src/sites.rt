@@ -6,7 +6,7 @@ use std::alloc::{AllocGlobal, Global};
 use std::marker::Brand;
 use std::random::RandomSource;
 use std::sync::Wait;
-use xds_node::{Host, Line, Node, NodeName, Opened, Seat};
+use xds_node::{Host, JournalLine, NodeName, Opened, Seat, SharedNode};
 use xds_resource::Refusal;
 
 /// What a test asks of a node beside what its worker threads do.
@@ -24,21 +24,21 @@ pub(crate) trait Site: Host + Drop {
     fn release<R: Wait>(&self, rt: &R);
 }
 
-impl<N: NodeName> Site for Node<N> {
+impl<N: NodeName> Site for SharedNode<N> {
     fn seat<R: Wait>(&self, rt: &R) -> Result<Seat<N>, Refusal> {
-        Node::seat(self, rt)
+        SharedNode::seat(self, rt)
     }
 
     fn stop<R: Wait>(&self, rt: &R) {
-        Node::stop(self, rt)
+        SharedNode::stop(self, rt)
     }
 
     fn hold<R: Wait>(&self, rt: &R) {
-        Node::hold(self, rt);
+        SharedNode::hold(self, rt);
     }
 
     fn release<R: Wait>(&self, rt: &R) {
-        Node::release(self, rt);
+        SharedNode::release(self, rt);
     }
 }
 
@@ -76,20 +76,20 @@ pub(crate) fn tried<T: Trial, R: Machine>(
     alloc: Global,
     trial: &T,
 ) -> Result<T::Came, Refusal> {
-    let opened = Opened::<Line>::new(alloc)?;
+    let opened = Opened::<JournalLine>::new(alloc)?;
     tried_with::<Brand, T, R>(rt, alloc, opened, trial)
 }
 
 fn tried_with<N: NodeName, T: Trial, R: Machine>(
     rt: &R,
     alloc: Global,
-    opened: Opened<Line>,
+    opened: Opened<JournalLine>,
     trial: &T,
 ) -> Result<T::Came, Refusal>
     requires name { opened ≡ N.id }
     requires number { 1 ≡ N.replica }
 {
-    tried_at(rt, alloc, Node::<N>::new(alloc, opened, 1), trial)
+    tried_at(rt, alloc, SharedNode::<N>::new(alloc, opened, 1), trial)
 }
 
 fn tried_at<A: Site, T: Trial, R: Machine>(

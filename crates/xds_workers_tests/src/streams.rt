@@ -11,7 +11,7 @@ use std::marker::Brand;
 use std::test::Fail;
 use std::thread::{Threads, join};
 use xds_frames::{Counted, FrameKind, write_frame};
-use xds_node::{Host, Line, Node, NodeName, Opened, serve_reader, serve_writer};
+use xds_node::{Host, JournalLine, NodeName, Opened, SharedNode, serve_reader, serve_writer};
 use xds_resource::Refusal;
 
 pub(crate) const REQUEST: &[u8] =
@@ -123,14 +123,20 @@ where
 fn serve<N: NodeName + Send + Sync, R: Threads + Machine + Sync>(
     rt: &R,
     alloc: Global,
-    opened: Opened<Line>,
+    opened: Opened<JournalLine>,
     input: Pieces<'_>,
     gate: &Held,
 ) -> Result<Served, Refusal>
     requires name { opened ≡ N.id }
     requires number { 1 ≡ N.replica }
 {
-    serve_one(rt, alloc, Node::<N>::new(alloc, opened, 1), input, gate)
+    serve_one(
+        rt,
+        alloc,
+        SharedNode::<N>::new(alloc, opened, 1),
+        input,
+        gate,
+    )
 }
 
 // The same of these bytes, in pieces of this size.
@@ -142,7 +148,7 @@ fn serve_in_pieces<R: Threads + Machine + Sync>(
     reads: u64,
     writes: u64,
 ) -> Result<Served, Refusal> {
-    let opened = Opened::<Line>::new(alloc)?;
+    let opened = Opened::<JournalLine>::new(alloc)?;
     serve::<Brand, _>(
         rt,
         alloc,

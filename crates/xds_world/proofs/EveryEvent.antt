@@ -27,7 +27,7 @@ use Rattle.xds_cache.specs.Sends.{is_greeted}
 use Rattle.xds_resource.specs.Types.{types}
 use Rattle.xds_world.specs.declared.event.ClientKind.{ClientKind}
 use Rattle.xds_world.specs.declared.event.ClientKind.TheVariants.{Sotw, Delta, Rest}
-use Rattle.xds_world.specs.declared.event.Answer.{Answer}
+use Rattle.xds_world.specs.declared.event.AnswerFate.{AnswerFate}
 use Rattle.xds_world.specs.Happenings.{Happening, Wish, AddReplica, AddClient, Put, Delete, Snapshot, Merge, Connect, Change, Up, Poll, Down, Lose, RestPoll}
 use Rattle.xds_world.specs.Worlds.{Site, Link, Peer, World, empty_world, at_site, happened_at, placed, pooled, with_peer, new_peer, connected_to, opened, with_request, changed, wish_of, wish_taken, under_way, polled, up_taken, received, taken_down, down_taken, opening_requests, has_streams, on_link, is_free, is_to_connect, asked_by, poll_event, answer_taken, happens}
 use Rattle.xds_world.specs.Knows.{TypedWrite}
@@ -314,15 +314,15 @@ never_linked k all c l x is linked = (subst (λ v. LinkedTo v all c l x) is link
 pub linked_never : (w : World) (all : List TypedWrite) (c : ℕ) (p : Peer) (l : Link) → Fine w all → finmap.get w.peers c ≡ Some p → p.link ≡ Some l → p.kind ≡ Rest → ⊥
 linked_never w all c p l fine has linked is = let there = fine.ups c p l has linked in never_linked p.kind all p.client l there.0 is there.2
 
-pub polls_unlinked : (test : Test) (w left : World) (all : List TypedWrite) (c r : ℕ) (t : TypeName) (answer : Answer) (x : IsRestPoll test w left c r t answer) → Fine w all → (l : Link) → x.peer.link ≡ Some l → ⊥
+pub polls_unlinked : (test : Test) (w left : World) (all : List TypedWrite) (c r : ℕ) (t : TypeName) (answer : AnswerFate) (x : IsRestPoll test w left c r t answer) → Fine w all → (l : Link) → x.peer.link ≡ Some l → ⊥
 polls_unlinked test w left all c r t answer x fine l linked = linked_never w all c x.peer l fine x.has linked (polls_as x.peer.kind x.peer.client t x.request x.asks)
 
-polled_rests : (test : Test) (all : List TypedWrite) (k : ClientKind) (answer : Answer) (c : Client) (t : TypeName) (o : Option Drafted) (x : Client) → k ≡ Rest → answer_taken test answer c t o ≡ Some x → ((u : TypeName) → RestsAs k all u (shelf c u))
+polled_rests : (test : Test) (all : List TypedWrite) (k : ClientKind) (answer : AnswerFate) (c : Client) (t : TypeName) (o : Option Drafted) (x : Client) → k ≡ Rest → answer_taken test answer c t o ≡ Some x → ((u : TypeName) → RestsAs k all u (shelf c u))
     → (u : TypeName) → RestsAs k all u (shelf x u)
 polled_rests test all k answer c t o x is takes rests u =
     subst (λ v. RestsAs v all u (shelf x u)) (sym is) (rests_answered test answer c t o x takes (λ s. subst (λ v. RestsAs v all s (shelf c s)) is (rests s)) u)
 
-fine_rest : (test : Test) (w left : World) (all : List TypedWrite) (c r : ℕ) (t : TypeName) (answer : Answer) (x : IsRestPoll test w left c r t answer) → Fine w all → Fine left all
+fine_rest : (test : Test) (w left : World) (all : List TypedWrite) (c r : ℕ) (t : TypeName) (answer : AnswerFate) (x : IsRestPoll test w left c r t answer) → Fine w all → Fine left all
 fine_rest test w left all c r t answer x fine =
     let e : Event = poll_event t x.request in
     let after : Peer = record x.peer { client = x.client } in

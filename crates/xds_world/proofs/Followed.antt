@@ -31,7 +31,7 @@ use Rattle.xds_cache.specs.Rest.{forgetting, rest_changed}
 use Rattle.xds_cache.specs.Receives.{sotw_change, sotw_changed, delta_change, delta_changed, sotw_answered, delta_answered, sotw_receive, delta_receive}
 use Rattle.xds_world.specs.declared.event.ClientKind.{ClientKind}
 use Rattle.xds_world.specs.declared.event.ClientKind.TheVariants.{Sotw, Delta, Rest}
-use Rattle.xds_world.specs.declared.event.Answer.{Answer}
+use Rattle.xds_world.specs.declared.event.AnswerFate.{AnswerFate}
 use Rattle.xds_world.specs.Happenings.{Happening, Wish, Names, Edits, AddReplica, AddClient, Put, Delete, Snapshot, Merge, Connect, Change, Up, Poll, Down, Lose, RestPoll}
 use Rattle.xds_world.specs.Worlds.{Site, Link, Peer, World, empty_world, at_site, happened_at, placed, pooled, with_peer, new_peer, connected_to, opened, with_request, changed, wish_of, wish_taken, under_way, polled, up_taken, received, received_in, taken_down, down_taken, is_free, is_to_connect, poll_event, happens, after}
 use Rattle.xds_world.specs.Knows.{wished, wishing, wanted_after, wants, placing, cluster_after, cluster as cluster_of, linking, linked_after, link}
@@ -188,7 +188,7 @@ down_stays test w left d p l (x ∷ rest) has at_link is =
       wants = λ t. received_wants test p.kind p.client x made.0 t made.1;
     }
 
-rest_stays : (test : Test) (w left : World) (d r : ℕ) (t : TypeName) (answer : Answer) → IsRestPoll test w left d r t answer → Stays w left d
+rest_stays : (test : Test) (w left : World) (d r : ℕ) (t : TypeName) (answer : AnswerFate) → IsRestPoll test w left d r t answer → Stays w left d
 rest_stays test w left d r t answer x =
     let e : Event = poll_event t x.request in
     let after : Peer = record x.peer { client = x.client } in

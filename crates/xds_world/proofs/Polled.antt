@@ -27,8 +27,8 @@ use Rattle.xds_cache.specs.Faults.{Test}
 use Rattle.xds_cache.specs.Deliveries.{Delivery, sotw_delivery, fault_in}
 use Rattle.xds_cache.specs.Clients.{Client, shelf, with_shelf, view}
 use Rattle.xds_cache.specs.Rest.{rest_asking, rest_taking, rest_delivered, rest_answered, answers_poll, rest_receive}
-use Rattle.xds_world.specs.declared.event.Answer.{Answer}
-use Rattle.xds_world.specs.declared.event.Answer.TheVariants.{Arrives, Lost}
+use Rattle.xds_world.specs.declared.event.AnswerFate.{AnswerFate}
+use Rattle.xds_world.specs.declared.event.AnswerFate.TheVariants.{Arrives, Lost}
 use Rattle.xds_world.specs.declared.event.ClientKind.{ClientKind}
 use Rattle.xds_world.specs.declared.event.ClientKind.TheVariants.{Sotw, Delta, Rest}
 use Rattle.xds_world.specs.Happenings.{Happening, RestPoll}
@@ -117,7 +117,7 @@ view_rejected test c x t d true is takes u =
     ap (λ y. view y u) (sym (some_is _ x takes)) ∙ each_shelf (λ v f. f.cache ≡ (shelf c v).cache) c t (rest_delivered t test (shelf c t) given) (view_by t (shelf c t) given (fault_in t test given) is) (λ v. refl) u
 view_rejected test c x t d false is takes u = absurd cc
 
-view_left : (test : Test) (answer : Answer) (c x : Client) (t : TypeName) (draft : Option Drafted) → answer_taken test answer c t draft ≡ Some x → (answer ≡ Lost) ⊎ (is_rejected (rest_receive test c t (option_map message_of draft)) ≡ true) → (u : TypeName) → view x u ≡ view c u
+view_left : (test : Test) (answer : AnswerFate) (c x : Client) (t : TypeName) (draft : Option Drafted) → answer_taken test answer c t draft ≡ Some x → (answer ≡ Lost) ⊎ (is_rejected (rest_receive test c t (option_map message_of draft)) ≡ true) → (u : TypeName) → view x u ≡ view c u
 view_left test Lost c x t draft takes why u = ap (λ y. view y u) (sym (some_is c x takes))
 view_left test Arrives c x t draft takes (inl lost) u = absurd cc
 view_left test Arrives c x t None takes (inr rejected) u = absurd (never_both _ rejected (rejects_none (wants_some (shelf c t).wants) c))
@@ -129,7 +129,7 @@ rejected_by : (test : Test) (p : Peer) (t : TypeName) (reply : Reply) (w : World
 rejected_by test p t reply w draft says = ap (λ y. is_rejected_by test p t (y, w)) says
 
 -- whether the client rejects is what it makes of what the replica answered
-rejected_is : (test : Test) (w left : World) (c r : ℕ) (t : TypeName) (answer : Answer) (x : IsRestPoll test w left c r t answer) → rejects test w c r t ≡ is_rejected (rest_receive test x.peer.client t (option_map message_of x.draft))
+rejected_is : (test : Test) (w left : World) (c r : ℕ) (t : TypeName) (answer : AnswerFate) (x : IsRestPoll test w left c r t answer) → rejects test w c r t ≡ is_rejected (rest_receive test x.peer.client t (option_map message_of x.draft))
 rejected_is test w left c r t answer x =
     ap (λ o. option_map_or (λ p. option_map_or (λ q. option_map_or (is_rejected_by test p t) (at_site w r (poll_event t q)) false) (poll_of p t) false) o false) x.has
     ∙ ap (λ o. option_map_or (λ q. option_map_or (is_rejected_by test x.peer t) (at_site w r (poll_event t q)) false) o false) x.asks ∙ ap (λ o. option_map_or (is_rejected_by test x.peer t) o false) x.answers
@@ -140,7 +140,7 @@ put_front [] more put = tt
 put_front (h ∷ hs) more put = (put.0, put_front hs more put.1)
 
 -- what is known of a poll among what happened
-module _ (test : Test) (hs : List Happening) (c r : ℕ) (t : TypeName) (answer : Answer) (x : IsPoll test hs c r t answer) where
+module _ (test : Test) (hs : List Happening) (c r : ℕ) (t : TypeName) (answer : AnswerFate) (x : IsPoll test hs c r t answer) where
   abbrev here : World
   here = world test x.before
 
@@ -239,13 +239,13 @@ asks_by Rest c t is some = ap (λ b. if b then Some (rest_asking c t) else None)
 asks_by Sotw c t is some = absurd cc
 asks_by Delta c t is some = absurd cc
 
-pub takes_some : (test : Test) (answer : Answer) (c : Client) (t : TypeName) (d : Option Drafted) → wants_some (shelf c t).wants ≡ true → ((y : Drafted) → d ≡ Some y → y.kind ≡ t) → (x : Client) × (answer_taken test answer c t d ≡ Some x)
+pub takes_some : (test : Test) (answer : AnswerFate) (c : Client) (t : TypeName) (d : Option Drafted) → wants_some (shelf c t).wants ≡ true → ((y : Drafted) → d ≡ Some y → y.kind ≡ t) → (x : Client) × (answer_taken test answer c t d ≡ Some x)
 takes_some test Lost c t d some kind = (c, refl)
 takes_some test Arrives c t None some kind = (c, ap (λ b. client_in {X = Option (List ℕ)} (if b then Ok (c, None) else Err BadMessage)) some)
 takes_some test Arrives c t (Some d) some kind =
     ((rest_answered test c t (message_of d)).0, ap (λ b. client_in (if b then Ok (rest_answered test c t (message_of d)) else Err BadMessage)) (addressed c t d some (kind d refl)))
 
-poll_happens : (test : Test) (w : World) (c r : ℕ) (p : Peer) (s : Site) (t : TypeName) (answer : Answer) → finmap.get w.peers c ≡ Some p → p.kind ≡ Rest → wants_some (shelf p.client t).wants ≡ true → finmap.get w.sites r ≡ Some s → IsSome (happens test w (RestPoll c r t answer))
+poll_happens : (test : Test) (w : World) (c r : ℕ) (p : Peer) (s : Site) (t : TypeName) (answer : AnswerFate) → finmap.get w.peers c ≡ Some p → p.kind ≡ Rest → wants_some (shelf p.client t).wants ≡ true → finmap.get w.sites r ≡ Some s → IsSome (happens test w (RestPoll c r t answer))
 poll_happens test w c r p s t answer has kind some there =
     let q : Request = rest_asking p.client t in
     let d : Option Drafted = poll_reply s.core t q in

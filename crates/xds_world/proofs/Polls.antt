@@ -15,8 +15,8 @@ use Rattle.xds_core.proofs.StreamSteps.{put_twice, put_back}
 use Rattle.xds_cache.specs.Shelves.{wants_some}
 use Rattle.xds_cache.specs.Faults.{Test}
 use Rattle.xds_cache.specs.Clients.{Client, shelf}
-use Rattle.xds_world.specs.declared.event.Answer.{Answer}
-use Rattle.xds_world.specs.declared.event.Answer.TheVariants.{Arrives, Lost}
+use Rattle.xds_world.specs.declared.event.AnswerFate.{AnswerFate}
+use Rattle.xds_world.specs.declared.event.AnswerFate.TheVariants.{Arrives, Lost}
 use Rattle.xds_world.specs.declared.event.ClientKind.{ClientKind}
 use Rattle.xds_world.specs.declared.event.ClientKind.TheVariants.{Sotw, Delta, Rest}
 use Rattle.xds_world.specs.Happenings as happenings
@@ -43,7 +43,7 @@ asking : (t : TypeName) (q : Request) (o : Option Peer) → Some q ≡ option_an
 asking t q None is = absurd cc
 asking t q (Some p) is = (p, refl, sym is)
 
-rest_is : (test : Test) (w : World) (c r : ℕ) (t : TypeName) (q : Request) (fate : Answer) (at : Asking w c t q) → happens test w (happenings.RestPoll c r t fate) ≡ option_and_then (rested test fate c t at.0) (at_site w r (poll_event t q))
+rest_is : (test : Test) (w : World) (c r : ℕ) (t : TypeName) (q : Request) (fate : AnswerFate) (at : Asking w c t q) → happens test w (happenings.RestPoll c r t fate) ≡ option_and_then (rested test fate c t at.0) (at_site w r (poll_event t q))
 rest_is test w c r t q fate at = ap (option_and_then (λ p. rest_polled test w c r t fate p)) at.1 ∙ ap (option_and_then (λ y. option_and_then (rested test fate c t at.0) (at_site w r (poll_event t y)))) at.2
 
 -- one who polls takes the answer, or rejects it

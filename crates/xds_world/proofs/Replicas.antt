@@ -40,7 +40,7 @@ use Rattle.xds_core.specs.Laws.{is_write}
 use Rattle.xds_core.proofs.StepLaws.{only_writes_change_the_store, done_with, put_is, delete_is, unless_once}
 use Rattle.xds_world.specs.Worlds.{Site, Link, Peer, World, empty_world, recorded, answered_at, at_site, happened_at, placed, pooled, with_peer, new_peer, connected_to, opened, changed, wish_taken, under_way, polled, up_taken, received, taken_down, down_taken, on_link, is_free, is_to_connect, poll_of, poll_event, answer_taken, rested, rest_polled, happens, after}
 use Rattle.xds_world.specs.Knows.{TypedWrite, Knowledge, nothing_known, learning, learned, known_after, knows, made as made_of}
-use Rattle.xds_world.specs.declared.event.Answer.{Answer}
+use Rattle.xds_world.specs.declared.event.AnswerFate.{AnswerFate}
 use Rattle.xds_world.specs.Happenings.{Happening, AddReplica, AddClient, Put, Delete, Snapshot, Merge, Connect, Change, Up, Poll, Down, Lose, RestPoll}
 use Rattle.xds_world.specs.Claims.{writes_of, HoldsWhatItKnows, SameKnowledgeSameHoldings}
 
@@ -369,7 +369,7 @@ on_link_some w c f left is =
 -- ---- polls without a stream
 
 -- what a poll that was possible did: the client, what it asked, what the replica answered, and the client then
-pub record IsRestPoll (test : Test) (w left : World) (c r : ℕ) (t : TypeName) (answer : Answer) : Type 0 where
+pub record IsRestPoll (test : Test) (w left : World) (c r : ℕ) (t : TypeName) (answer : AnswerFate) : Type 0 where
   pub peer : Peer
   pub has : finmap.get w.peers c ≡ Some peer
   pub request : messages.Request
@@ -382,7 +382,7 @@ pub record IsRestPoll (test : Test) (w left : World) (c r : ℕ) (t : TypeName) 
   pub takes : answer_taken test answer peer.client t draft ≡ Some client
   pub after : left ≡ with_peer reply.1 c (record peer { client = client })
 
-rested_is : (test : Test) (answer : Answer) (c : ℕ) (t : TypeName) (p : Peer) (reply : Reply) (w left : World) → rested test answer c t p (reply, w) ≡ Some left
+rested_is : (test : Test) (answer : AnswerFate) (c : ℕ) (t : TypeName) (p : Peer) (reply : Reply) (w left : World) → rested test answer c t p (reply, w) ≡ Some left
     → (o : Option Drafted) × (x : Client) × (reply ≡ Rested o) × (answer_taken test answer p.client t o ≡ Some x) × (left ≡ with_peer w c (record p { client = x }))
 rested_is test answer c t p (Rested o) w left is = let made = mapped_some (λ x. with_peer w c (record p { client = x })) (answer_taken test answer p.client t o) left is in (o, made.0, refl, made.1, made.2)
 rested_is test answer c t p (Opened n) w left is = absurd cc
@@ -395,7 +395,7 @@ rested_is test answer c t p (Merged n) w left is = absurd cc
 rested_is test answer c t p (Entries b) w left is = absurd cc
 rested_is test answer c t p (Changed b marks) w left is = absurd cc
 
-pub rest_poll_is : (test : Test) (w left : World) (c r : ℕ) (t : TypeName) (answer : Answer) → happens test w (RestPoll c r t answer) ≡ Some left → IsRestPoll test w left c r t answer
+pub rest_poll_is : (test : Test) (w left : World) (c r : ℕ) (t : TypeName) (answer : AnswerFate) → happens test w (RestPoll c r t answer) ≡ Some left → IsRestPoll test w left c r t answer
 rest_poll_is test w left c r t answer is =
     let peer = bound_some (λ p. rest_polled test w c r t answer p) (finmap.get w.peers c) left is in
     let p : Peer = peer.0 in

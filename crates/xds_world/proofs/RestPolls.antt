@@ -27,8 +27,8 @@ use Rattle.xds_cache.specs.Faults.{Test}
 use Rattle.xds_cache.specs.Deliveries.{sotw_delivery, fault_in}
 use Rattle.xds_cache.specs.Clients.{Client, shelf, with_shelf, unlinked}
 use Rattle.xds_cache.specs.Rest.{rest_asking, forgetting, rest_taking, rest_delivered}
-use Rattle.xds_world.specs.declared.event.Answer.{Answer}
-use Rattle.xds_world.specs.declared.event.Answer.TheVariants.{Arrives}
+use Rattle.xds_world.specs.declared.event.AnswerFate.{AnswerFate}
+use Rattle.xds_world.specs.declared.event.AnswerFate.TheVariants.{Arrives}
 use Rattle.xds_world.specs.declared.event.ClientKind.{ClientKind}
 use Rattle.xds_world.specs.declared.event.ClientKind.TheVariants.{Sotw, Delta, Rest}
 use Rattle.xds_world.specs.Happenings.{Happening, Wish, AddReplica, AddClient, Put, Delete, Snapshot, Merge, Connect, Change, Up, Poll, Down, Lose, RestPoll}
@@ -105,7 +105,7 @@ pub record IsAnswered (w : World) (r : ℕ) (t : TypeName) (c : Client) (draft :
 abbrev pub poll_reply : Core → TypeName → Request → Option Drafted
 poll_reply k t q = core_rested k t q.resource_names q.version_info (cluster_in q.node)
 
-pub poll_answered : (test : Test) (w left : World) (c r : ℕ) (t : TypeName) (answer : Answer) (x : IsRestPoll test w left c r t answer) → ((k : ℕ) (s : Site) → finmap.get w.sites k ≡ Some s → s.core.replica ≡ k) → IsAnswered w r t x.peer.client x.draft
+pub poll_answered : (test : Test) (w left : World) (c r : ℕ) (t : TypeName) (answer : AnswerFate) (x : IsRestPoll test w left c r t answer) → ((k : ℕ) (s : Site) → finmap.get w.sites k ≡ Some s → s.core.replica ≡ k) → IsAnswered w r t x.peer.client x.draft
 poll_answered test w left c r t answer x numbers =
     let at_r = at_site_is w r (poll_event t x.request) x.reply x.answers in
     let asked = asked_is x.peer.kind x.peer.client t x.request x.asks in
@@ -149,7 +149,7 @@ delivered_present sites all cluster r t f s None there r_to h_to known present =
 delivered_present sites all cluster r t f s (Some x) there r_to h_to known present = present
 
 -- what an answer leaves of a client keeps it
-answered_present : (test : Test) (answer : Answer) (w : World) (all : List TypedWrite) (r : ℕ) (t : TypeName) (c x : Client) (draft : Option Drafted) → (is : IsAnswered w r t c draft) → answer_taken test answer c t draft ≡ Some x → r ≤ max_writer → (at is.site.core.store t).changes ≤ max_counter
+answered_present : (test : Test) (answer : AnswerFate) (w : World) (all : List TypedWrite) (r : ℕ) (t : TypeName) (c x : Client) (draft : Option Drafted) → (is : IsAnswered w r t c draft) → answer_taken test answer c t draft ≡ Some x → r ≤ max_writer → (at is.site.core.store t).changes ≤ max_counter
     → AllKnown all t (at is.site.core.store t).entries → ((u : TypeName) → IsPresent w.sites c.cluster u (shelf c u)) → (u : TypeName) → IsPresent w.sites x.cluster u (shelf x u)
 answered_present test answer w all r t c x draft is takes r_to h_to known present = by_what (answer_leaves test answer c t draft x takes)
   where
@@ -235,7 +235,7 @@ join_present : (w left : World) (d : ℕ) (kind : ClientKind) (cluster : List �
 join_present w left d kind cluster is present =
     put_peer w left d (new_peer d kind cluster) (joined_is w left d kind cluster is).1 (λ polls t. unversioned left.sites cluster t (shelf (new_peer d kind cluster).client t) (ap (λ (f : Shelf). f.accepted) (at-each bare t))) present
 
-poll_present : (test : Test) (w left : World) (k : Knowledge) (all : List TypedWrite) (d r : ℕ) (t : TypeName) (answer : Answer) → happens test w (RestPoll d r t answer) ≡ Some left → SitesGrow w.sites left.sites → Kept w k → Stamped w k all → Ranged w all → Polls w → AllPresent w.peers left.sites
+poll_present : (test : Test) (w left : World) (k : Knowledge) (all : List TypedWrite) (d r : ℕ) (t : TypeName) (answer : AnswerFate) → happens test w (RestPoll d r t answer) ≡ Some left → SitesGrow w.sites left.sites → Kept w k → Stamped w k all → Ranged w all → Polls w → AllPresent w.peers left.sites
     → AllPresent left.peers left.sites
 poll_present test w left k all d r t answer is grow kept stamped ranged polls present =
     let x = rest_poll_is test w left d r t answer is in

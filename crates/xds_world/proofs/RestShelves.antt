@@ -15,8 +15,8 @@ use Rattle.xds_cache.specs.Deliveries.{Delivery, sotw_delivery, fault_in, statem
 use Rattle.xds_cache.specs.Clients.{Client, shelf, with_shelf}
 use Rattle.xds_cache.specs.Rest.{forgetting, rest_changed, rest_taking, rest_delivered, rest_answered}
 use Rattle.xds_cache.proofs.Interests.{holds_what_is_wanted}
-use Rattle.xds_world.specs.declared.event.Answer.{Answer}
-use Rattle.xds_world.specs.declared.event.Answer.TheVariants.{Arrives, Lost}
+use Rattle.xds_world.specs.declared.event.AnswerFate.{AnswerFate}
+use Rattle.xds_world.specs.declared.event.AnswerFate.TheVariants.{Arrives, Lost}
 use Rattle.xds_world.specs.Worlds.{client_in, answer_taken}
 use Rattle.xds_world.proofs.Replicas.{some_is, never}
 use Rattle.xds_world.proofs.SotwLinks.{Rests}
@@ -41,7 +41,7 @@ left_if true y x is = sym (some_is y.0 x is)
 left_if false y x is = absurd (never x is)
 
 -- what an answer leaves: nothing changed, or the shelf of its type after it
-pub answer_leaves : (test : Test) (answer : Answer) (c : Client) (t : TypeName) (o : Option Drafted) (x : Client) → answer_taken test answer c t o ≡ Some x
+pub answer_leaves : (test : Test) (answer : AnswerFate) (c : Client) (t : TypeName) (o : Option Drafted) (x : Client) → answer_taken test answer c t o ≡ Some x
     → (x ≡ c) ⊎ ((d : Drafted) × (o ≡ Some d) × (answer ≡ Arrives) × (x ≡ with_shelf c t (rest_delivered t test (shelf c t) (sotw_delivery t (message_of d)))))
 answer_leaves test Lost c t o x is = inl (sym (some_is c x is))
 answer_leaves test Arrives c t None x is = inl (left_if _ _ x is)
@@ -51,7 +51,7 @@ rests_by : (t : TypeName) (f : Shelf) (d : Delivery) (fault : Option (List ℕ))
 rests_by t f d None rests = λ name unwanted. (holds_what_is_wanted t f.wants d.whole d.removed (statements t d) f.cache name unwanted).0
 rests_by t f d (Some x) rests = rests
 
-pub rests_answered : (test : Test) (answer : Answer) (c : Client) (t : TypeName) (o : Option Drafted) (x : Client) → answer_taken test answer c t o ≡ Some x → ((u : TypeName) → Rests u (shelf c u)) → (u : TypeName) → Rests u (shelf x u)
+pub rests_answered : (test : Test) (answer : AnswerFate) (c : Client) (t : TypeName) (o : Option Drafted) (x : Client) → answer_taken test answer c t o ≡ Some x → ((u : TypeName) → Rests u (shelf c u)) → (u : TypeName) → Rests u (shelf x u)
 rests_answered test answer c t o x is rests u = by_what (answer_leaves test answer c t o x is)
   where
     by_what : (x ≡ c) ⊎ ((d : Drafted) × (o ≡ Some d) × (answer ≡ Arrives) × (x ≡ with_shelf c t (rest_delivered t test (shelf c t) (sotw_delivery t (message_of d))))) → Rests u (shelf x u)
@@ -73,7 +73,7 @@ pub record Answers (c x : Client) : Type 0 where
 answers_same : (c x : Client) → x ≡ c → Answers c x
 answers_same c x same = record { cluster = ap (λ (y : Client). y.cluster) same; broken = ap (λ (y : Client). y.broken) same; wants = λ u. ap (λ (y : Client). (shelf y u).wants) same }
 
-pub answers_stay : (test : Test) (answer : Answer) (c : Client) (t : TypeName) (o : Option Drafted) (x : Client) → answer_taken test answer c t o ≡ Some x → Answers c x
+pub answers_stay : (test : Test) (answer : AnswerFate) (c : Client) (t : TypeName) (o : Option Drafted) (x : Client) → answer_taken test answer c t o ≡ Some x → Answers c x
 answers_stay test answer c t o x is = by_what (answer_leaves test answer c t o x is)
   where
     by_what : (x ≡ c) ⊎ ((d : Drafted) × (o ≡ Some d) × (answer ≡ Arrives) × (x ≡ with_shelf c t (rest_delivered t test (shelf c t) (sotw_delivery t (message_of d))))) → Answers c x

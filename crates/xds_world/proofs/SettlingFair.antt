@@ -16,7 +16,7 @@ use Rattle.xds_core.specs.Events.{Event, Reply, Answered, Polled}
 use Rattle.xds_core.specs.Steps.{Core, fresh as fresh_core}
 use Rattle.xds_cache.specs.Faults.{Test}
 use Rattle.xds_cache.specs.Clients.{Client, unlinked}
-use Rattle.xds_world.specs.declared.event.Answer.{Answer}
+use Rattle.xds_world.specs.declared.event.AnswerFate.{AnswerFate}
 use Rattle.xds_world.specs.Happenings.{Happening, Wish, AddReplica, AddClient, Put, Delete, Snapshot, Merge, Connect, Change, Up, Poll, Down, Lose, RestPoll}
 use Rattle.xds_world.specs.Worlds.{Site, Link, Peer, World, empty_world, at_site, happened_at, placed, pooled, with_peer, new_peer, connected_to, opened, with_request, changed, wish_of, wish_taken, under_way, polled, up_taken, received, taken_down, down_taken, opening_requests, is_free, is_to_connect, poll_event, happens, after}
 use Rattle.xds_world.specs.Knows.{TypedWrite, made_now}
@@ -212,7 +212,7 @@ fair_joined test w left all c after down is fair = fair_peer w left all test c a
 
 -- ---- polls without a stream
 
-fair_rest : (test : Test) (w left : World) (all : List TypedWrite) (c r : ℕ) (t : TypeName) (answer : Answer) (x : IsRestPoll test w left c r t answer) → Fine w all → IsFairWorld all test w → IsFairWorld all test left
+fair_rest : (test : Test) (w left : World) (all : List TypedWrite) (c r : ℕ) (t : TypeName) (answer : AnswerFate) (x : IsRestPoll test w left c r t answer) → Fine w all → IsFairWorld all test w → IsFairWorld all test left
 fair_rest test w left all c r t answer x fine fair =
     let e : Event = poll_event t x.request in
     let after : Peer = record x.peer { client = x.client } in

@@ -25,7 +25,7 @@ use Rattle.xds_cache.specs.Clients.{Client, client_code, linked, unlinked}
 use Rattle.xds_cache.specs.Sends.{is_greeted}
 use Rattle.xds_world.specs.declared.event.ClientKind.{ClientKind}
 use Rattle.xds_world.specs.declared.event.ClientKind.TheVariants.{Sotw, Delta, Rest}
-use Rattle.xds_world.specs.declared.event.Answer.TheVariants.{Arrives}
+use Rattle.xds_world.specs.declared.event.AnswerFate.TheVariants.{Arrives}
 use Rattle.xds_world.specs.Happenings.{Wish}
 use Rattle.xds_world.specs.Worlds.{Peer, wish_of, received_in, answer_taken}
 use Rattle.xds_world.specs.PeerCodes.{kind_code}

@@ -61,8 +61,8 @@ use Rattle.xds_cache.specs.Faults.{Test}
 use Rattle.xds_cache.specs.Receives.{Outcome}
 use Rattle.xds_cache.specs.Rest.{rest_receive}
 use Rattle.xds_world.specs.declared.event.ClientKind.TheVariants.{Sotw, Delta, Rest}
-use Rattle.xds_world.specs.declared.event.Answer.{Answer}
-use Rattle.xds_world.specs.declared.event.Answer.TheVariants.{Arrives, Lost}
+use Rattle.xds_world.specs.declared.event.AnswerFate.{AnswerFate}
+use Rattle.xds_world.specs.declared.event.AnswerFate.TheVariants.{Arrives, Lost}
 use Rattle.xds_world.specs.Happenings.{Happening, Put, RestPoll}
 use Rattle.xds_world.specs.Worlds.{World, Site, Peer, Link, empty_world, world, at_site, poll_of, poll_event, happens}
 use Rattle.xds_world.specs.Knows.{TypedWrite, knows, wants, cluster, link, made_after}
@@ -163,7 +163,7 @@ SettledAgrees test hs =
 -- ---- polls
 
 -- A poll among what happened: what came before it, the client then, and the client after it.
-pub record IsPoll (test : Test) (hs : List Happening) (c r : ℕ) (t : TypeName) (answer : Answer) : Type 0 where
+pub record IsPoll (test : Test) (hs : List Happening) (c r : ℕ) (t : TypeName) (answer : AnswerFate) : Type 0 where
   pub before : List Happening
   pub rest : List Happening
   pub among : hs ≡ before ++ RestPoll c r t answer ∷ rest
@@ -205,7 +205,7 @@ PolledIsTaken test hs =
 -- an answer that is lost or rejected changes nothing of what the client shows
 abbrev pub LostLeavesTheView : Test → List Happening → Type 0
 LostLeavesTheView test hs =
-    (c r : ℕ) (t : TypeName) (answer : Answer) (x : IsPoll test hs c r t answer) → (answer ≡ Lost) ⊎ (rejects test (world test x.before) c r t ≡ true)
+    (c r : ℕ) (t : TypeName) (answer : AnswerFate) (x : IsPoll test hs c r t answer) → (answer ≡ Lost) ⊎ (rejects test (world test x.before) c r t ≡ true)
     → (u : TypeName) → clients.view x.polled.client u ≡ clients.view x.polling.client u
 
 -- a client that polls has no stream
@@ -215,7 +215,7 @@ PollersHaveNoStream test hs = (c : ℕ) (p : Peer) → finmap.get (world test hs
 -- a client that polls and wants something of a type may poll any replica for it, whatever it knows
 abbrev pub PollsArePossible : Test → List Happening → Type 0
 PollsArePossible test hs =
-    (c r : ℕ) (p : Peer) (s : Site) (t : TypeName) (answer : Answer) → finmap.get (world test hs).peers c ≡ Some p → p.kind ≡ Rest → wants_some (wants test hs c t) ≡ true → finmap.get (world test hs).sites r ≡ Some s
+    (c r : ℕ) (p : Peer) (s : Site) (t : TypeName) (answer : AnswerFate) → finmap.get (world test hs).peers c ≡ Some p → p.kind ≡ Rest → wants_some (wants test hs c t) ≡ true → finmap.get (world test hs).sites r ≡ Some s
     → IsSome (happens test (world test hs) (RestPoll c r t answer))
 
 -- ---- replicas, stamps, journals

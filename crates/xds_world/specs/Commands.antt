@@ -39,21 +39,21 @@ use Rattle.xds_resource.specs.Groups.{groups_of}
 use Rattle.xds_resource.specs.Resources.{NamedBody, named_type, parsed, value_of}
 use Rattle.xds_world.specs.declared.event.ClientKind.{ClientKind}
 use Rattle.xds_world.specs.declared.event.ClientKind.TheVariants as kinds
-use Rattle.xds_world.specs.declared.event.Answer.TheVariants.{Arrives, Lost}
+use Rattle.xds_world.specs.declared.event.AnswerFate.TheVariants.{Arrives, Lost}
 use Rattle.xds_world.specs.Happenings as happenings
 use Rattle.xds_world.specs.Happenings.{Happening, Wish}
 use Rattle.xds_world.specs.ModelSeen.{happening_of}
 use Rattle.xds_world.specs.declared.command.Command.{Command}
 use Rattle.xds_world.specs.declared.command.Command.TheVariants as commands
-use Rattle.xds_world.specs.declared.command.Verb.{Verb}
-use Rattle.xds_world.specs.declared.command.Verb.TheVariants.{Replica, Client, Put, PutIn, Delete, Snapshot, Merge, Connect, Names, Change, Up, Down, Lose, Poll, Rest, RestLost, Settle, View, Content}
+use Rattle.xds_world.specs.declared.command.CommandVerb.{CommandVerb}
+use Rattle.xds_world.specs.declared.command.CommandVerb.TheVariants.{Replica, Client, Put, PutIn, Delete, Snapshot, Merge, Connect, Names, Change, Up, Down, Lose, Poll, Rest, RestLost, Settle, View, Content}
 use Rattle.xds_world.specs.Lines.{pieces}
 use Rattle.xds_world.specs.Words.{Text, is_empty, text_of, split_first, only, two, replica_number, whole_number}
 
 -- ---- verbs
 
 -- the word of a verb
-abbrev pub word_of : Verb → Text
+abbrev pub word_of : CommandVerb → Text
 word_of Replica = codes "replica"
 word_of Client = codes "client"
 word_of Put = codes "put"
@@ -74,12 +74,12 @@ word_of Settle = codes "settle"
 word_of View = codes "view"
 word_of Content = codes "content"
 
-abbrev pub verbs : List Verb
+abbrev pub verbs : List CommandVerb
 verbs =
     Replica ∷ Client ∷ Put ∷ PutIn ∷ Delete ∷ Snapshot ∷ Merge ∷ Connect ∷ Names ∷ Change ∷ Up ∷ Down ∷ Lose ∷ Poll ∷ Rest ∷ RestLost ∷ Settle ∷ View ∷ Content ∷ []
 
 -- the verb that is this word
-abbrev pub verb_of : Text → Option Verb
+abbrev pub verb_of : Text → Option CommandVerb
 verb_of word = find (λ v. bytes_eq word (word_of v)) verbs
 
 -- ---- what stands behind a verb
@@ -191,7 +191,7 @@ said_of (commands.View client kind) = Shows client kind
 said_of (commands.Content replica kind) = Lists replica kind
 
 -- what a verb says with the words behind it
-abbrev pub says : Verb → List Text → Option Said
+abbrev pub says : CommandVerb → List Text → Option Said
 says Replica ws = option_map (λ r. Happens (happenings.AddReplica r)) (only_replica ws)
 says Client ws = option_map (λ p. Happens (happenings.AddClient p.0 p.1.0 p.1.1)) (read_first whole_number kind_and_cluster ws)
 says Put ws = option_map (λ p. Happens (happenings.Put p.0 p.1.0 p.1.1 [])) (read_first replica_number resource_behind ws)

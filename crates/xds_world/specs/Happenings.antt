@@ -5,7 +5,7 @@ use Rattle.std.specs.Prelude.{ℕ, List, Option}
 use Rattle.xds_resource.specs.declared.types.TypeName.{TypeName}
 use Rattle.xds_resource.specs.Resources.{NamedBody}
 use Rattle.xds_world.specs.declared.event.ClientKind.{ClientKind}
-use Rattle.xds_world.specs.declared.event.Answer.{Answer}
+use Rattle.xds_world.specs.declared.event.AnswerFate.{AnswerFate}
 
 -- What a client is told to want of a type: state of the world and REST, a list of all texts; delta, texts to subscribe and to unsubscribe.
 pub data Wish : Type 0 where
@@ -33,4 +33,4 @@ pub data Happening : Type 0 where
   Down : ℕ → Happening
   Lose : ℕ → Happening
   -- a client that polls asks a replica for a type, and the answer arrives or is lost
-  RestPoll : ℕ → ℕ → TypeName → Answer → Happening
+  RestPoll : ℕ → ℕ → TypeName → AnswerFate → Happening

@@ -2,11 +2,11 @@
 --     client_in   a client of any kind, with its link
 use Rattle.std.specs.Prelude.{true, false}
 use Rattle.xds_world.specs.declared.event.ClientKind.TheVariants as kinds
-use Rattle.xds_world.specs.declared.client.State.{State}
-use Rattle.xds_world.specs.declared.client.State.TheVariants as states
+use Rattle.xds_world.specs.declared.client.ClientState.{ClientState}
+use Rattle.xds_world.specs.declared.client.ClientState.TheVariants as states
 use Rattle.xds_world.specs.AnyClients.{AnyClient}
 
-abbrev pub client_in : {A : Type 0} → State A → AnyClient
+abbrev pub client_in : {A : Type 0} → ClientState A → AnyClient
 client_in (states.SotwDown c) = record { kind = kinds.Sotw; up = false; client = c }
 client_in (states.SotwUp c) = record { kind = kinds.Sotw; up = true; client = c }
 client_in (states.DeltaDown c) = record { kind = kinds.Delta; up = false; client = c }

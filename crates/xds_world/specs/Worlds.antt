@@ -71,8 +71,8 @@ use Rattle.xds_cache.specs.Receives.{Outcome, sotw_change, delta_change, sotw_re
 use Rattle.xds_cache.specs.Rest.{rest_request, rest_changed, rest_receive}
 use Rattle.xds_world.specs.declared.event.ClientKind.{ClientKind}
 use Rattle.xds_world.specs.declared.event.ClientKind.TheVariants.{Sotw, Delta, Rest}
-use Rattle.xds_world.specs.declared.event.Answer.{Answer}
-use Rattle.xds_world.specs.declared.event.Answer.TheVariants.{Arrives, Lost}
+use Rattle.xds_world.specs.declared.event.AnswerFate.{AnswerFate}
+use Rattle.xds_world.specs.declared.event.AnswerFate.TheVariants.{Arrives, Lost}
 use Rattle.xds_world.specs.Happenings.{Wish, Names, Edits, Happening, AddReplica, AddClient, Put, Delete, Snapshot, Merge, Connect, Change, Up, Poll, Down, Lose, RestPoll}
 
 -- a replica, and what happened at it, with the answers
@@ -236,15 +236,15 @@ client_in (Err refusal) = None
 
 -- rule: not-modified
 -- the client after an answer, which has no body where nothing changed; one that is lost changes nothing
-abbrev pub answer_taken : Test → Answer → Client → TypeName → Option Drafted → Option Client
+abbrev pub answer_taken : Test → AnswerFate → Client → TypeName → Option Drafted → Option Client
 answer_taken test Arrives c t d = client_in (rest_receive test c t (option_map message_of d))
 answer_taken test Lost c t d = Some c
 
-abbrev pub rested : Test → Answer → ℕ → TypeName → Peer → Reply × World → Option World
+abbrev pub rested : Test → AnswerFate → ℕ → TypeName → Peer → Reply × World → Option World
 rested test answer c t p (events.Rested d, w) = option_map (λ x. with_peer w c (record p { client = x })) (answer_taken test answer p.client t d)
 rested test answer c t p (reply, w) = None
 
-abbrev pub rest_polled : Test → World → ℕ → ℕ → TypeName → Answer → Peer → Option World
+abbrev pub rest_polled : Test → World → ℕ → ℕ → TypeName → AnswerFate → Peer → Option World
 rest_polled test w c r t answer p = option_and_then (λ q. option_and_then (rested test answer c t p) (at_site w r (poll_event t q))) (poll_of p t)
 
 -- ---- what happens

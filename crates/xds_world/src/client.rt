@@ -20,7 +20,7 @@ use crate::event::{ClientKind, Wish};
 use std::alloc::Global;
 use std::collections::VecDeque;
 use std::marker::Model;
-use xds_cache::{Accept, Cache, DeltaClient, Down, Link, RestClient, SotwClient, Up};
+use xds_cache::{Accept, Cache, DeltaClient, Down, LinkState, RestClient, SotwClient, Up};
 use xds_core::Request;
 use xds_message::{
     DeltaDiscoveryRequest, DeltaDraft, DiscoveryRequest, DiscoveryResponse, Draft, SotwDraft,
@@ -28,7 +28,7 @@ use xds_message::{
 use xds_resource::{Refusal, TypeName};
 
 #[derive(Drop)]
-enum State<A: Accept> {
+enum ClientState<A: Accept> {
     SotwDown(SotwClient<A, Down>),
     SotwUp(SotwClient<A, Up>),
     DeltaDown(DeltaClient<A, Down>),
@@ -39,7 +39,7 @@ enum State<A: Accept> {
 /// A client of any kind, with a stream or without.
 #[derive(Drop)]
 pub(crate) struct AnyClient<A: Accept> {
-    state: State<A>,
+    state: ClientState<A>,
 }
 
 impl<A: Accept> Model for AnyClient<A> {
@@ -86,7 +86,7 @@ fn delta_requests(
 }
 
 // What becomes of a wish at a state-of-the-world client.
-fn change_sotw<A: Accept, L: Link>(
+fn change_sotw<A: Accept, L: LinkState>(
     client: &mut SotwClient<A, L>,
     alloc: Global,
     kind: TypeName,
@@ -107,7 +107,7 @@ fn change_sotw<A: Accept, L: Link>(
 }
 
 // What becomes of a wish at a delta client.
-fn change_delta<A: Accept, L: Link>(
+fn change_delta<A: Accept, L: LinkState>(
     client: &mut DeltaClient<A, L>,
     alloc: Global,
     kind: TypeName,
@@ -155,7 +155,7 @@ fn up_sotw<A: Accept>(
     ensures refused { IfErr result (λ e. e ≡ OutOfMemory) }
 {
     let requests = sotw_requests(alloc, requests)?;
-    let state = State::SotwUp(client);
+    let state = ClientState::SotwUp(client);
     Ok((AnyClient { state }, requests))
 }
 
@@ -185,7 +185,7 @@ fn up_delta<A: Accept>(
     ensures refused { IfErr result (λ e. e ≡ OutOfMemory) }
 {
     let requests = delta_requests(alloc, requests)?;
-    let state = State::DeltaUp(client);
+    let state = ClientState::DeltaUp(client);
     Ok((AnyClient { state }, requests))
 }
 
@@ -278,9 +278,9 @@ impl<A: Accept> AnyClient<A> {
         ensures { result ≡ fresh_any kind (string_bytes node_id) (string_bytes cluster) }
     {
         let state = match kind {
-            ClientKind::Sotw => State::SotwDown(SotwClient::new(alloc, node_id, cluster)),
-            ClientKind::Delta => State::DeltaDown(DeltaClient::new(alloc, node_id, cluster)),
-            ClientKind::Rest => State::Rest(RestClient::new(alloc, node_id, cluster)),
+            ClientKind::Sotw => ClientState::SotwDown(SotwClient::new(alloc, node_id, cluster)),
+            ClientKind::Delta => ClientState::DeltaDown(DeltaClient::new(alloc, node_id, cluster)),
+            ClientKind::Rest => ClientState::Rest(RestClient::new(alloc, node_id, cluster)),
         };
         AnyClient { state }
     }
@@ -289,11 +289,11 @@ impl<A: Accept> AnyClient<A> {
         ensures { result ≡ self.now.kind }
     {
         match &self.state {
-            State::SotwDown(_) => ClientKind::Sotw,
-            State::SotwUp(_) => ClientKind::Sotw,
-            State::DeltaDown(_) => ClientKind::Delta,
-            State::DeltaUp(_) => ClientKind::Delta,
-            State::Rest(_) => ClientKind::Rest,
+            ClientState::SotwDown(_) => ClientKind::Sotw,
+            ClientState::SotwUp(_) => ClientKind::Sotw,
+            ClientState::DeltaDown(_) => ClientKind::Delta,
+            ClientState::DeltaUp(_) => ClientKind::Delta,
+            ClientState::Rest(_) => ClientKind::Rest,
         }
     }
 
@@ -302,11 +302,11 @@ impl<A: Accept> AnyClient<A> {
         ensures { result.now ≡ view_of self.now.client kind }
     {
         match &self.state {
-            State::SotwDown(client) => client.view(kind),
-            State::SotwUp(client) => client.view(kind),
-            State::DeltaDown(client) => client.view(kind),
-            State::DeltaUp(client) => client.view(kind),
-            State::Rest(client) => client.view(kind),
+            ClientState::SotwDown(client) => client.view(kind),
+            ClientState::SotwUp(client) => client.view(kind),
+            ClientState::DeltaDown(client) => client.view(kind),
+            ClientState::DeltaUp(client) => client.view(kind),
+            ClientState::Rest(client) => client.view(kind),
         }
     }
 
@@ -319,8 +319,8 @@ impl<A: Accept> AnyClient<A> {
         ensures refused { IfErr result (λ e. e ≡ OutOfMemory) }
     {
         match self.state {
-            State::SotwDown(client) => connect_sotw(client, alloc),
-            State::DeltaDown(client) => connect_delta(client, alloc),
+            ClientState::SotwDown(client) => connect_sotw(client, alloc),
+            ClientState::DeltaDown(client) => connect_delta(client, alloc),
             state => Ok((AnyClient { state }, VecDeque::new(alloc))),
         }
     }
@@ -338,11 +338,11 @@ impl<A: Accept> AnyClient<A> {
         ensures refused { IfErr result (λ e. e ≡ OutOfMemory) }
     {
         match &mut self.state {
-            State::SotwDown(client) => change_sotw(client, alloc, kind, wish),
-            State::SotwUp(client) => change_sotw(client, alloc, kind, wish),
-            State::DeltaDown(client) => change_delta(client, alloc, kind, wish),
-            State::DeltaUp(client) => change_delta(client, alloc, kind, wish),
-            State::Rest(client) => change_rest(client, alloc, kind, wish),
+            ClientState::SotwDown(client) => change_sotw(client, alloc, kind, wish),
+            ClientState::SotwUp(client) => change_sotw(client, alloc, kind, wish),
+            ClientState::DeltaDown(client) => change_delta(client, alloc, kind, wish),
+            ClientState::DeltaUp(client) => change_delta(client, alloc, kind, wish),
+            ClientState::Rest(client) => change_rest(client, alloc, kind, wish),
         }
     }
 
@@ -358,8 +358,10 @@ impl<A: Accept> AnyClient<A> {
         ensures refused { IfErr result (λ e. e ≡ OutOfMemory) }
     {
         match (&mut self.state, draft) {
-            (State::SotwUp(client), Draft::Sotw(draft)) => receive_sotw(client, alloc, draft),
-            (State::DeltaUp(client), Draft::Delta(draft)) => receive_delta(client, alloc, draft),
+            (ClientState::SotwUp(client), Draft::Sotw(draft)) => receive_sotw(client, alloc, draft),
+            (ClientState::DeltaUp(client), Draft::Delta(draft)) => receive_delta(
+                client, alloc, draft,
+            ),
             _ => Ok(None),
         }
     }
@@ -374,7 +376,7 @@ impl<A: Accept> AnyClient<A> {
         ensures refused { IfErr result (λ e. e ≡ OutOfMemory) }
     {
         match &self.state {
-            State::Rest(client) => client.request(alloc, kind),
+            ClientState::Rest(client) => client.request(alloc, kind),
             _ => Ok(None),
         }
     }
@@ -392,7 +394,7 @@ impl<A: Accept> AnyClient<A> {
         ensures refused { IfErr result (λ e. e ≡ OutOfMemory) }
     {
         match &mut self.state {
-            State::Rest(client) => answer_rest(client, alloc, kind, answer),
+            ClientState::Rest(client) => answer_rest(client, alloc, kind, answer),
             _ => Ok(false),
         }
     }
@@ -403,8 +405,8 @@ impl<A: Accept> AnyClient<A> {
         ensures { result ≡ unlinked_any self }
     {
         let state = match self.state {
-            State::SotwUp(client) => State::SotwDown(client.lose()),
-            State::DeltaUp(client) => State::DeltaDown(client.lose()),
+            ClientState::SotwUp(client) => ClientState::SotwDown(client.lose()),
+            ClientState::DeltaUp(client) => ClientState::DeltaDown(client.lose()),
             state => state,
         };
         AnyClient { state }

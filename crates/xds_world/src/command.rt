@@ -20,7 +20,7 @@ pub enum Command {
 
 /// The first word of a line, which says what kind of command it is.
 #[derive(Clone, Copy, Debug, PartialEq, Eq)]
-pub enum Verb {
+pub enum CommandVerb {
     Replica,
     Client,
     Put,
@@ -42,31 +42,31 @@ pub enum Verb {
     Content,
 }
 
-impl Verb {
+impl CommandVerb {
     /// The verb that is this word, if there is one.
-    pub fn from_word(word: &str) -> Option<Verb>
+    pub fn from_word(word: &str) -> Option<CommandVerb>
         ensures { result ≡ verb_of word.now }
     {
         match word {
-            "replica" => Some(Verb::Replica),
-            "client" => Some(Verb::Client),
-            "put" => Some(Verb::Put),
-            "putin" => Some(Verb::PutIn),
-            "delete" => Some(Verb::Delete),
-            "snapshot" => Some(Verb::Snapshot),
-            "merge" => Some(Verb::Merge),
-            "connect" => Some(Verb::Connect),
-            "names" => Some(Verb::Names),
-            "change" => Some(Verb::Change),
-            "up" => Some(Verb::Up),
-            "down" => Some(Verb::Down),
-            "lose" => Some(Verb::Lose),
-            "poll" => Some(Verb::Poll),
-            "rest" => Some(Verb::Rest),
-            "restlost" => Some(Verb::RestLost),
-            "settle" => Some(Verb::Settle),
-            "view" => Some(Verb::View),
-            "content" => Some(Verb::Content),
+            "replica" => Some(CommandVerb::Replica),
+            "client" => Some(CommandVerb::Client),
+            "put" => Some(CommandVerb::Put),
+            "putin" => Some(CommandVerb::PutIn),
+            "delete" => Some(CommandVerb::Delete),
+            "snapshot" => Some(CommandVerb::Snapshot),
+            "merge" => Some(CommandVerb::Merge),
+            "connect" => Some(CommandVerb::Connect),
+            "names" => Some(CommandVerb::Names),
+            "change" => Some(CommandVerb::Change),
+            "up" => Some(CommandVerb::Up),
+            "down" => Some(CommandVerb::Down),
+            "lose" => Some(CommandVerb::Lose),
+            "poll" => Some(CommandVerb::Poll),
+            "rest" => Some(CommandVerb::Rest),
+            "restlost" => Some(CommandVerb::RestLost),
+            "settle" => Some(CommandVerb::Settle),
+            "view" => Some(CommandVerb::View),
+            "content" => Some(CommandVerb::Content),
             _ => None,
         }
     }

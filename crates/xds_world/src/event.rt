@@ -19,7 +19,7 @@ pub enum ClientKind {
 
 /// What becomes of the answer to a poll on its way to the client.
 #[derive(Clone, Copy, Debug, PartialEq, Eq)]
-pub enum Answer {
+pub enum AnswerFate {
     /// The client gets it.
     Arrives,
     /// The client never learns of it.
@@ -73,7 +73,7 @@ pub enum WorldEvent {
     /// A client loses its stream, with all that is under way.
     Lose(u32),
     /// A client of REST that wants something of a type polls a replica for it, which answers at once.
-    RestPoll(u32, u16, TypeName, Answer),
+    RestPoll(u32, u16, TypeName, AnswerFate),
 }
 
 impl Wish {

@@ -22,9 +22,9 @@ mod words;
 pub mod world;
 
 pub use command::Command;
-pub use event::{Answer, ClientKind, Wish, WorldEvent};
+pub use event::{AnswerFate, ClientKind, Wish, WorldEvent};
 pub use link::{Link, Step};
-pub use peer::{Peer, Status};
+pub use peer::{Peer, PeerStatus};
 pub use script::{ScriptFault, read_line, read_script};
 pub use settling::{Settlement, Unsettled, settle};
 pub use world::{World, more, play};

@@ -22,7 +22,7 @@ use xds_resource::{Refusal, TypeName};
 
 /// Whether a client has a stream, or polls.
 #[derive(Clone, Copy, Debug, PartialEq, Eq)]
-pub enum Status {
+pub enum PeerStatus {
     /// It has a stream to a replica.
     Up,
     /// It has none.
@@ -91,13 +91,13 @@ impl<A: Accept> Peer<A> {
     }
 
     /// Whether the client has a stream, or polls.
-    pub fn status(&self) -> Status
+    pub fn status(&self) -> PeerStatus
         ensures { result ≡ status_of self.now }
     {
         match (self.client.kind(), &self.link) {
-            (ClientKind::Rest, _) => Status::Rest,
-            (_, Some(_)) => Status::Up,
-            (_, None) => Status::Down,
+            (ClientKind::Rest, _) => PeerStatus::Rest,
+            (_, Some(_)) => PeerStatus::Up,
+            (_, None) => PeerStatus::Down,
         }
     }
 

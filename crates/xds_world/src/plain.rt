@@ -2,12 +2,12 @@
 ghost use Rattle.std.specs.Prelude.{◌≡◌, Option};
 ghost use Rattle.std.specs.Option.{option_map};
 ghost use Rattle.xds_resource.specs.Types.{type_of_word};
-ghost use Rattle.xds_world.specs.declared.command.Verb.TheVariants as verbs;
+ghost use Rattle.xds_world.specs.declared.command.CommandVerb.TheVariants as verbs;
 ghost use Rattle.xds_world.specs.Words.{replica_number, whole_number};
 ghost use Rattle.xds_world.specs.Commands.{read_two, read_first, only_replica, only_client, client_and_type, client_and_poll, type_if_any, said_of, says};
 
 use crate::command::Command;
-use crate::event::{Answer, WorldEvent};
+use crate::event::{AnswerFate, WorldEvent};
 use crate::numbers::{replica_number, whole_number};
 use crate::words::Words;
 use xds_resource::TypeName;
@@ -125,7 +125,7 @@ pub(crate) fn rest(words: Words) -> Option<Command>
     ensures { option_map said_of result ≡ says verbs.Rest words.entry }
 {
     let (client, (replica, kind)) = client_and_poll(words)?;
-    let event = WorldEvent::RestPoll(client, replica, kind, Answer::Arrives);
+    let event = WorldEvent::RestPoll(client, replica, kind, AnswerFate::Arrives);
     Some(Command::Event(event))
 }
 
@@ -133,7 +133,7 @@ pub(crate) fn rest_lost(words: Words) -> Option<Command>
     ensures { option_map said_of result ≡ says verbs.RestLost words.entry }
 {
     let (client, (replica, kind)) = client_and_poll(words)?;
-    let event = WorldEvent::RestPoll(client, replica, kind, Answer::Lost);
+    let event = WorldEvent::RestPoll(client, replica, kind, AnswerFate::Lost);
     Some(Command::Event(event))
 }
 

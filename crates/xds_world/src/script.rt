@@ -7,7 +7,7 @@ ghost use Rattle.xds_world.specs.Words.{words};
 ghost use Rattle.xds_world.specs.Commands.{said_of, says, says_words};
 ghost use Rattle.xds_world.specs.Scripts.{is_skipped, text_says, line_says, is_bad, said_in, IsScript, IsRefusedAt};
 
-use crate::command::{Command, Verb};
+use crate::command::{Command, CommandVerb};
 use crate::lines::{split_line, without_last_feed};
 use crate::words::Words;
 use crate::{plain, texts};
@@ -91,33 +91,33 @@ fn read_words(alloc: Global, words: Words) -> Result<Command, Refusal>
     ensures { Gives said_of result (ok_or (says_words words.entry) BadScript) }
 {
     let (verb, rest) = words.split_first().ok_or(Refusal::BadScript)?;
-    let verb = Verb::from_word(verb).ok_or(Refusal::BadScript)?;
+    let verb = CommandVerb::from_word(verb).ok_or(Refusal::BadScript)?;
     read_command(alloc, verb, rest)
 }
 
 // What the verb says with the words behind it.
-fn read_command(alloc: Global, verb: Verb, words: Words) -> Result<Command, Refusal>
+fn read_command(alloc: Global, verb: CommandVerb, words: Words) -> Result<Command, Refusal>
     ensures { Gives said_of result (ok_or (says verb words.entry) BadScript) }
 {
     match verb {
-        Verb::Replica => plain::add_replica(words).ok_or(Refusal::BadScript),
-        Verb::Client => texts::add_client(alloc, words),
-        Verb::Put => texts::put(alloc, words),
-        Verb::PutIn => texts::put_in(alloc, words),
-        Verb::Delete => texts::delete(alloc, words),
-        Verb::Snapshot => plain::snapshot(words).ok_or(Refusal::BadScript),
-        Verb::Merge => plain::merge(words).ok_or(Refusal::BadScript),
-        Verb::Connect => plain::connect(words).ok_or(Refusal::BadScript),
-        Verb::Names => texts::names(alloc, words),
-        Verb::Change => texts::change(alloc, words),
-        Verb::Up => plain::up(words).ok_or(Refusal::BadScript),
-        Verb::Down => plain::down(words).ok_or(Refusal::BadScript),
-        Verb::Lose => plain::lose(words).ok_or(Refusal::BadScript),
-        Verb::Poll => plain::poll(words).ok_or(Refusal::BadScript),
-        Verb::Rest => plain::rest(words).ok_or(Refusal::BadScript),
-        Verb::RestLost => plain::rest_lost(words).ok_or(Refusal::BadScript),
-        Verb::Settle => plain::settle(words).ok_or(Refusal::BadScript),
-        Verb::View => plain::view(words).ok_or(Refusal::BadScript),
-        Verb::Content => plain::content(words).ok_or(Refusal::BadScript),
+        CommandVerb::Replica => plain::add_replica(words).ok_or(Refusal::BadScript),
+        CommandVerb::Client => texts::add_client(alloc, words),
+        CommandVerb::Put => texts::put(alloc, words),
+        CommandVerb::PutIn => texts::put_in(alloc, words),
+        CommandVerb::Delete => texts::delete(alloc, words),
+        CommandVerb::Snapshot => plain::snapshot(words).ok_or(Refusal::BadScript),
+        CommandVerb::Merge => plain::merge(words).ok_or(Refusal::BadScript),
+        CommandVerb::Connect => plain::connect(words).ok_or(Refusal::BadScript),
+        CommandVerb::Names => texts::names(alloc, words),
+        CommandVerb::Change => texts::change(alloc, words),
+        CommandVerb::Up => plain::up(words).ok_or(Refusal::BadScript),
+        CommandVerb::Down => plain::down(words).ok_or(Refusal::BadScript),
+        CommandVerb::Lose => plain::lose(words).ok_or(Refusal::BadScript),
+        CommandVerb::Poll => plain::poll(words).ok_or(Refusal::BadScript),
+        CommandVerb::Rest => plain::rest(words).ok_or(Refusal::BadScript),
+        CommandVerb::RestLost => plain::rest_lost(words).ok_or(Refusal::BadScript),
+        CommandVerb::Settle => plain::settle(words).ok_or(Refusal::BadScript),
+        CommandVerb::View => plain::view(words).ok_or(Refusal::BadScript),
+        CommandVerb::Content => plain::content(words).ok_or(Refusal::BadScript),
     }
 }

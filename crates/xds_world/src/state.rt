@@ -18,7 +18,7 @@ ghost use Rattle.xds_world.specs.Peers.{peer_up, peer_polled, peer_lost, peer_co
 ghost use Rattle.xds_world.specs.Steps.{event_for};
 ghost use Rattle.xds_world.specs.Parts.{blank, leads, draft_in, stream_in, batch_in, rested_in, peer_event};
 
-use crate::event::{Answer, ClientKind, Wish, WorldEvent};
+use crate::event::{AnswerFate, ClientKind, Wish, WorldEvent};
 use crate::link::{Link, Step};
 use crate::parts::is_there;
 use crate::peer::Peer;
@@ -509,7 +509,7 @@ impl<A: Accept> State<A> {
         client: u32,
         replica: u16,
         kind: TypeName,
-        fate: Answer,
+        fate: AnswerFate,
     ) -> Result<bool, Refusal>
         ensures ok { IfOk result (λ b. Happened self.old b self.new (happens A.accepts self.old (happenings.RestPoll client replica kind fate))) }
         ensures refused { IfErr result (λ e. e ≡ OutOfMemory) }
@@ -521,8 +521,8 @@ impl<A: Accept> State<A> {
             return Ok(false);
         };
         match fate {
-            Answer::Arrives => self.answer(alloc, client, kind, answer),
-            Answer::Lost => {
+            AnswerFate::Arrives => self.answer(alloc, client, kind, answer),
+            AnswerFate::Lost => {
                 drop(answer);
                 Ok(true)
             }

@@ -5,7 +5,7 @@ ghost use Rattle.xds_resource.specs.declared.refusal.Refusal.TheVariants.{BadScr
 ghost use Rattle.xds_resource.specs.Refusals.{Gives};
 ghost use Rattle.xds_resource.specs.Any.{resource_type, named_body};
 ghost use Rattle.xds_world.specs.ModelSeen.{wish_of};
-ghost use Rattle.xds_world.specs.declared.command.Verb.TheVariants as verbs;
+ghost use Rattle.xds_world.specs.declared.command.CommandVerb.TheVariants as verbs;
 ghost use Rattle.xds_world.specs.Lines.{pieces};
 ghost use Rattle.xds_world.specs.Commands.{cluster_if_any, comma, groups_in, groups_and_resource, kind_of_word, kind_and_cluster, resource_behind, name_in, name_behind, names_in, edits_in, is_edit, subscribed_in, unsubscribed_in, said_of, says};
 

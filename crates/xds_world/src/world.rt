@@ -12,7 +12,7 @@ ghost use Rattle.xds_world.specs.Statuses.{status_of};
 ghost use Rattle.xds_core.specs.Seen.{record_of};
 
 use crate::event::{ClientKind, WorldEvent};
-use crate::peer::Status;
+use crate::peer::PeerStatus;
 use crate::run::Run;
 use std::alloc::Global;
 use std::marker::Model;
@@ -88,7 +88,7 @@ impl<A: Accept> World<A> {
     }
 
     /// Whether a client is up or down, or polls; none where there is no such client.
-    pub fn status(&self, client: u32) -> Option<Status>
+    pub fn status(&self, client: u32) -> Option<PeerStatus>
         ensures { result ≡ option_map status_of (finmap.get (world_of A.accepts self.now).peers client) }
     {
         let peer = self.run.state.peer(client)?;

@@ -2,7 +2,7 @@
 use std::alloc::Global;
 use std::test::Fail;
 use xds_cases::cases::{Outcome, hold};
-use xds_changes::{Wanted, marks_text, read_wanted};
+use xds_changes::{WantedWrites, marks_text, read_wanted};
 use xds_commands::routed;
 
 // What a request of a method and a path asks for.
@@ -56,7 +56,7 @@ impl Outcome for Asked {
         let query = given.trim_matches('\'');
         match read_wanted(query) {
             Some(
-                Wanted {
+                WantedWrites {
                     replica,
                     since,
                     wait,

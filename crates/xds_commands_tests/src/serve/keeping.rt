@@ -3,7 +3,7 @@ use std::alloc::Global;
 use std::test::Fail;
 use xds_cases::cases::{Outcome, hold};
 use xds_causes::cause_of;
-use xds_changes::{Kept, MAX_LINE, Said};
+use xds_changes::{Kept, MAX_LINE, SaidLine};
 
 // What is wrong of a line.
 struct Wrong;
@@ -43,8 +43,8 @@ delete 1 cluster a b => wrong words",
 }
 
 // What a line said, in words.
-fn word_of(said: Said) -> &'static str {
-    let Said { line: _, what } = said;
+fn word_of(said: SaidLine) -> &'static str {
+    let SaidLine { line: _, what } = said;
     match what {
         Ok(Some(_)) => "a change",
         Ok(None) => "nothing",

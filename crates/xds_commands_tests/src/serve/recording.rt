@@ -11,7 +11,7 @@ use std::time::{SystemTime, UNIX_EPOCH};
 use std::{fs, io};
 use xds_core::Event;
 use xds_monitor::{Piece, Recording, Reel, Seals};
-use xds_node::{Host, Line, Node, NodeName, Opened, Segment};
+use xds_node::{Host, JournalLine, NodeName, Opened, Segment, SharedNode};
 use xds_resource::{AnyResource, Groups, Refusal};
 
 // A new folder.
@@ -133,12 +133,12 @@ fn end_of<N: NodeName>(
 fn ends_of<N: NodeName, R: Wait>(
     rt: &R,
     alloc: Global,
-    opened: Opened<Line>,
+    opened: Opened<JournalLine>,
 ) -> Result<String, Refusal>
     requires name { opened ≡ N.id }
     requires own { 1 ≡ N.replica }
 {
-    let node = Node::<N>::new(alloc, opened, 1)?;
+    let node = SharedNode::<N>::new(alloc, opened, 1)?;
     let mut seat = node.seat(rt)?;
     let mut segments = Vec::new(alloc);
     for _ in 0..3 {
@@ -166,7 +166,7 @@ fn ends_of<N: NodeName, R: Wait>(
 
 fn ended<R: Wait + AllocGlobal>(rt: &R) -> Result<String, Refusal> {
     let alloc = rt.alloc();
-    let opened = Opened::<Line>::new(alloc)?;
+    let opened = Opened::<JournalLine>::new(alloc)?;
     ends_of::<Brand, R>(rt, alloc, opened)
 }
 

@@ -11,7 +11,7 @@ use xds_message::DiscoveryRequest;
 use xds_monitor::{
     Instrumented, JournalWeight, Limits, Lookout, Observer, SegmentSink, Served, Turns,
 };
-use xds_node::{Host, Line, Node, NodeName, Opened};
+use xds_node::{Host, JournalLine, NodeName, Opened, SharedNode};
 use xds_notes::{Ending, Telling};
 use xds_resource::{AnyResource, Groups, Refusal};
 
@@ -116,13 +116,13 @@ fn observer_of<C: Clock + Drop>(alloc: Global, clock: C) -> Result<Observer<C>, 
 fn records_after<N: NodeName, R: Wait + Clock + Copy + Drop>(
     rt: &R,
     alloc: Global,
-    opened: Opened<Line>,
+    opened: Opened<JournalLine>,
     story: Story,
 ) -> Result<usize, Refusal>
     requires name { opened ≡ N.id }
     requires own { 1 ≡ N.replica }
 {
-    let node = Node::<N>::new(alloc, opened, 1)?;
+    let node = SharedNode::<N>::new(alloc, opened, 1)?;
     let observer = observer_of(alloc, *rt)?;
     let weight = JournalWeight::new(alloc, story.is_recorded);
     let node = Instrumented::new(node, weight, observer, SegmentSink::new(None));
@@ -138,7 +138,7 @@ fn left_after<R: Wait + Clock + AllocGlobal + Copy + Drop>(
     story: Story,
 ) -> Result<usize, Refusal> {
     let alloc = rt.alloc();
-    let opened = Opened::<Line>::new(alloc)?;
+    let opened = Opened::<JournalLine>::new(alloc)?;
     records_after::<Brand, R>(rt, alloc, opened, story)
 }
 

@@ -7,7 +7,7 @@ use crate::exchanges::rounds::{are_equal, put_all};
 use std::alloc::Global;
 use std::test::Fail;
 use xds_core::Core;
-use xds_exchange::{Outbox, Peer};
+use xds_exchange::{Outbox, PeerMarks};
 use xds_message::Batch;
 use xds_resource::{Refusal, TypeName};
 
@@ -23,7 +23,7 @@ fn tell_again<S: Site>(alloc: Global, one: &mut S, other: &mut S) -> Result<bool
     put_all(alloc, one, TypeName::Secret, 2)?;
     one.delete(alloc, TypeName::Cluster, 1)?;
     put_all(alloc, other, TypeName::Cluster, 1)?;
-    let mut peer = Peer::new();
+    let mut peer = PeerMarks::new();
     let is_refused = match one.tell(alloc, other, &mut peer) {
         Ok(round) => {
             if round.sent != 5 || round.parts != 1 {
@@ -38,7 +38,7 @@ fn tell_again<S: Site>(alloc: Global, one: &mut S, other: &mut S) -> Result<bool
     if is_refused != (again.sent == 5) {
         return Err(Fail::new(format_args!("{} sent again", again.sent)));
     }
-    other.tell(alloc, one, &mut Peer::new())?;
+    other.tell(alloc, one, &mut PeerMarks::new())?;
     are_equal(alloc, one, other)?;
     Ok(is_refused)
 }

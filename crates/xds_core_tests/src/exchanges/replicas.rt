@@ -1,7 +1,7 @@
 // Replicas, as type parameters: of those a drop is one step to the proof.
 use std::alloc::Global;
 use xds_core::{Core, Event, Reply};
-use xds_exchange::{Peer, Round, round};
+use xds_exchange::{PeerMarks, Round, round};
 use xds_resource::{AnyResource, Groups, Refusal, TypeName};
 
 /// A replica that writes and tells others.
@@ -19,7 +19,7 @@ pub trait Site: Drop + Sized {
     fn delete(&mut self, alloc: Global, kind: TypeName, number: u64) -> Result<(), Refusal>;
 
     /// Tells another what changed.
-    fn tell(&self, alloc: Global, other: &mut Self, peer: &mut Peer) -> Result<Round, Refusal>;
+    fn tell(&self, alloc: Global, other: &mut Self, peer: &mut PeerMarks) -> Result<Round, Refusal>;
 
     /// All entries.
     fn text(&mut self, alloc: Global) -> Result<String, Refusal>;
@@ -52,7 +52,12 @@ impl Site for Core {
         }
     }
 
-    fn tell(&self, alloc: Global, other: &mut Core, peer: &mut Peer) -> Result<Round, Refusal> {
+    fn tell(
+        &self,
+        alloc: Global,
+        other: &mut Core,
+        peer: &mut PeerMarks,
+    ) -> Result<Round, Refusal> {
         round(alloc, self, other, peer)
     }
 

@@ -3,7 +3,7 @@ use crate::exchanges::replicas::Site;
 use std::alloc::Global;
 use std::test::Fail;
 use xds_core::Core;
-use xds_exchange::{Peer, Round};
+use xds_exchange::{PeerMarks, Round};
 use xds_resource::{Refusal, TypeName};
 
 const CLUSTERS: u64 = 1000;
@@ -17,7 +17,7 @@ fn tells<S: Site>(
     alloc: Global,
     one: &S,
     other: &mut S,
-    peer: &mut Peer,
+    peer: &mut PeerMarks,
     wanted: (usize, usize, u128),
 ) -> Result<(), Fail> {
     let Round { sent, parts, grown } = one.tell(alloc, other, peer)?;
@@ -58,13 +58,13 @@ fn thousand_clusters<S: Site>(alloc: Global) -> Result<(), Fail> {
 }
 
 fn told_thrice<S: Site>(alloc: Global, one: &mut S, other: &mut S) -> Result<(), Fail> {
-    let mut peer = Peer::new();
+    let mut peer = PeerMarks::new();
     put_all(alloc, one, TypeName::Cluster, CLUSTERS)?;
     tells(alloc, one, other, &mut peer, (1000, 2, 1000))?;
     tells(alloc, one, other, &mut peer, (0, 0, 0))?;
     one.put(alloc, TypeName::Cluster, CLUSTERS)?;
     tells(alloc, one, other, &mut peer, (1, 1, 1))?;
-    let mut peer = Peer::new();
+    let mut peer = PeerMarks::new();
     tells(alloc, one, other, &mut peer, (1001, 2, 0))?;
     are_equal(alloc, one, other)
 }
@@ -83,7 +83,7 @@ fn five_types<S: Site>(alloc: Global) -> Result<(), Fail> {
 
 // Three of each type, of which one is deleted: the deletions are told, too.
 fn told_of_types<S: Site>(alloc: Global, one: &mut S, other: &mut S) -> Result<(), Fail> {
-    let mut peer = Peer::new();
+    let mut peer = PeerMarks::new();
     put_all(alloc, one, TypeName::Cluster, 3)?;
     put_all(alloc, one, TypeName::Endpoint, 3)?;
     put_all(alloc, one, TypeName::Listener, 3)?;
@@ -105,22 +105,22 @@ fn all_five_types(rt: HostRuntime) -> Result<(), Fail> {
 // What each of three replicas was told by the others.
 #[derive(Drop)]
 struct Peers {
-    one_two: Peer,
-    one_three: Peer,
-    two_one: Peer,
-    two_three: Peer,
-    three_one: Peer,
-    three_two: Peer,
+    one_two: PeerMarks,
+    one_three: PeerMarks,
+    two_one: PeerMarks,
+    two_three: PeerMarks,
+    three_one: PeerMarks,
+    three_two: PeerMarks,
 }
 
 fn no_peers() -> Peers {
     Peers {
-        one_two: Peer::new(),
-        one_three: Peer::new(),
-        two_one: Peer::new(),
-        two_three: Peer::new(),
-        three_one: Peer::new(),
-        three_two: Peer::new(),
+        one_two: PeerMarks::new(),
+        one_three: PeerMarks::new(),
+        two_one: PeerMarks::new(),
+        two_three: PeerMarks::new(),
+        three_one: PeerMarks::new(),
+        three_two: PeerMarks::new(),
     }
 }
 
@@ -189,7 +189,7 @@ fn write<S: Site>(alloc: Global, all: &mut Three<S>, number: u64) -> Result<(), 
         4 => all.two.delete(alloc, kind, which),
         5 => all.three.delete(alloc, kind, which),
         6 => {
-            all.peers.one_two = Peer::new();
+            all.peers.one_two = PeerMarks::new();
             Ok(())
         }
         _ => Ok(()),

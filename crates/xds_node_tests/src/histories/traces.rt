@@ -7,7 +7,7 @@ use std::marker::Brand;
 use std::sync::Wait;
 use std::test::Fail;
 use xds_check::{Trace, check};
-use xds_node::{History, Line, Node, NodeName, Opened, Segment};
+use xds_node::{History, JournalLine, NodeName, Opened, Segment, SharedNode};
 use xds_resource::Refusal;
 use xds_trace::{of_audited, of_history};
 
@@ -85,7 +85,7 @@ fn trace_of<N: NodeName>(
 fn told<N: NodeName, R: Wait>(
     rt: &R,
     alloc: Global,
-    opened: Opened<Line>,
+    opened: Opened<JournalLine>,
     story: Story,
     order: Order,
     is_audited: bool,
@@ -93,7 +93,7 @@ fn told<N: NodeName, R: Wait>(
     requires name { opened ≡ N.id }
     requires number { N.replica ≡ 1 }
 {
-    let node = Node::<N>::new(alloc, opened, 1);
+    let node = SharedNode::<N>::new(alloc, opened, 1);
     let mut segments = Vec::new(alloc);
     let history = left(rt, alloc, node, story.text(), order.is_cut(), &mut segments)?;
     arrange(&mut segments, order);
@@ -108,7 +108,7 @@ fn told_of<R: Wait + AllocGlobal>(
     is_audited: bool,
 ) -> Result<String, Refusal> {
     let alloc = rt.alloc();
-    let opened = Opened::<Line>::new(alloc)?;
+    let opened = Opened::<JournalLine>::new(alloc)?;
     told::<Brand, R>(rt, alloc, opened, story, order, is_audited)
 }
 

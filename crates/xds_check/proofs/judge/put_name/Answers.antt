@@ -1,7 +1,7 @@
 use Rattle.std.proofs.Common.{List, ℕ, true, sym, ap, subst, ◌∙◌}
 use Rattle.std.proofs.lemmas.Result.{on_ok_weaker}
 use Rattle.xds_check.specs.LiveNames.{AreLive, with_name_of}
-use Rattle.xds_check.proofs.Living.{put_back, left_out, without_absent, body_dead, body_lives}
+use Rattle.xds_check.proofs.LiveNames.{put_back, left_out, without_absent, body_dead, body_lives}
 use Rattle.xds_check.proofs.judge.put_name.Goals as goal
 
 pub returns-then-is_none-clause-ok : goal.returns-then-is_none-clause-ok

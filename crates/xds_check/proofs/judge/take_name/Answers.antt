@@ -1,7 +1,7 @@
 use Rattle.std.proofs.Common.{List, ℕ, false, sym, ap, subst, ◌∙◌}
 use Rattle.std.proofs.lemmas.Result.{on_ok_weaker}
 use Rattle.xds_check.specs.LiveNames.{AreLive, with_name_of}
-use Rattle.xds_check.proofs.Living.{taken_out, without_absent}
+use Rattle.xds_check.proofs.LiveNames.{taken_out, without_absent}
 use Rattle.xds_check.proofs.judge.take_name.Goals as goal
 
 pub returns-in-Some-clause-ok : goal.returns-in-Some-clause-ok

@@ -2,7 +2,7 @@ use Rattle.std.proofs.Common.{sym, ap, subst, ◌∙◌}
 use Rattle.std.specs.FinMap as finmap
 use Rattle.xds_catalogue.specs.Holdings.{Holdings}
 use Rattle.xds_check.specs.LiveNames.{AreLive}
-use Rattle.xds_check.proofs.Living.{joined_beside}
+use Rattle.xds_check.proofs.LiveNames.{joined_beside}
 use Rattle.xds_check.proofs.judge.take_one.Goals as goal
 
 pub put_name-requires : goal.put_name-requires

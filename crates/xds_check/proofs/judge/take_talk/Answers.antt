@@ -2,7 +2,7 @@ use Rattle.std.proofs.Common.{sym, subst}
 use Rattle.std.proofs.lemmas.Result.{on_ok_weaker}
 use Rattle.xds_check.specs.declared.line.Line.{Line}
 use Rattle.xds_check.specs.Kept.{IsHeard}
-use Rattle.xds_check.proofs.Hearing.{request_heard, answer_heard}
+use Rattle.xds_check.proofs.StreamChanges.{request_heard, answer_heard}
 use Rattle.xds_check.proofs.judge.take_talk.Goals as goal
 
 pub returns-in-Request-clause-ok : goal.returns-in-Request-clause-ok

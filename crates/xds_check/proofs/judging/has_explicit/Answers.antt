@@ -1,7 +1,7 @@
 use Rattle.std.proofs.Common.{◌≡◌, ◌&&◌, List, String, Global, [], map, string_bytes, sym, ap, ◌∙◌}
 use Rattle.std.specs.List.{list_all}
 use Rattle.xds_check.specs.LiveNames.{has_if_live}
-use Rattle.xds_check.proofs.Living.{by_items}
+use Rattle.xds_check.proofs.LiveNames.{by_items}
 use Rattle.xds_check.proofs.judging.has_explicit.Goals as goal
 
 pub returns-then-not-has_if_live : goal.returns-then-not-has_if_live

@@ -5,7 +5,7 @@ use Rattle.xds_catalogue.specs.Content.{content}
 use Rattle.xds_ledger.specs.Variants.{is_whole}
 use Rattle.xds_check.specs.Answers.{Statement, stated_names}
 use Rattle.xds_check.specs.Kept.{lacks_one}
-use Rattle.xds_check.proofs.Living.{judged}
+use Rattle.xds_check.proofs.LiveNames.{judged}
 use Rattle.xds_check.proofs.judging.lacks_a_name.Goals as goal
 
 pub returns-clause-ok : goal.returns-clause-ok

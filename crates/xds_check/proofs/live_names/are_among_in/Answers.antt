@@ -3,7 +3,7 @@ use Rattle.std.specs.Prelude.{unwrap_or}
 use Rattle.std.specs.FinMap as finmap
 use Rattle.xds_check.specs.Kept.{Marks}
 use Rattle.xds_check.specs.LiveNames.{are_among}
-use Rattle.xds_check.proofs.Living.{empty_among}
+use Rattle.xds_check.proofs.LiveNames.{empty_among}
 use Rattle.xds_check.proofs.live_names.are_among_in.Goals as goal
 
 pub returns-in-None : goal.returns-in-None

@@ -1,6 +1,6 @@
 use Rattle.std.proofs.Common.{◌++◌, ◌∙◌, ap, codes, string_bytes}
 use Rattle.std.specs.List.{flat_map}
-use Rattle.xds_stats.specs.declared.metrics.Kind.TheVariants.{Counter}
+use Rattle.xds_stats.specs.declared.metrics.MetricKind.TheVariants.{Counter}
 use Rattle.xds_stats.specs.Metrics.{help_line}
 use Rattle.xds_monitor.specs.Recordings.{ended_sample}
 use Rattle.xds_stats.proofs.Paging.{line_more, line_all}

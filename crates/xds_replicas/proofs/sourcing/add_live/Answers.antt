@@ -2,7 +2,7 @@ use Rattle.std.proofs.Common.{◌+◌, drop, sym, ap, ◌∙◌}
 use Rattle.xds_resource.specs.Any.{stamped_write}
 use Rattle.xds_resource.specs.PerType.{at}
 use Rattle.xds_replicas.specs.Linting.{with_writes}
-use Rattle.xds_replicas.proofs.Living.{live_more}
+use Rattle.xds_replicas.proofs.LiveWrites.{live_more}
 use Rattle.xds_replicas.proofs.sourcing.add_live.Goals as goal
 
 -- the write is among those that are live, and those behind it follow

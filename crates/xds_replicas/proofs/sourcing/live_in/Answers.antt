@@ -2,7 +2,7 @@ use Rattle.std.proofs.Common.{◌+◌, drop, get_or, refl, sym, ap, ◌∙◌}
 use Rattle.xds_resource.specs.declared.types.TypeName.TheVariants.{Cluster}
 use Rattle.xds_resource.specs.Types.{types}
 use Rattle.xds_replicas.specs.Linting.{live_of}
-use Rattle.xds_replicas.proofs.Living.{kind_more}
+use Rattle.xds_replicas.proofs.LiveWrites.{kind_more}
 use Rattle.xds_replicas.proofs.sourcing.live_in.Goals as goal
 
 pub loop-kind-preserved : goal.loop-kind-preserved

@@ -1,11 +1,11 @@
 use Rattle.std.proofs.Common.{◌≡◌, ◌++◌, ◌∙◌, ℕ, List, Some, Result, Ok, Err, OnOk, codes, decimal, sym}
-use Rattle.xds_stats.specs.declared.pages.Shown.{Shown}
+use Rattle.xds_stats.specs.declared.pages.ReplicaNumbers.{ReplicaNumbers}
 use Rattle.xds_stats.specs.Metrics.{seconds_text, value_line}
 use Rattle.xds_stats.specs.Pages.{lag_line}
 use Rattle.xds_stats.proofs.pages.add_lag.Goals as goal
 
 -- a line that was put behind a text is that of a replica, where its labels, its number and the time are the replica's
-same_lag : {A E : Type 0} (r : Result A E) (text next labels seconds : List ℕ) (shown : Shown) (micros : ℕ)
+same_lag : {A E : Type 0} (r : Result A E) (text next labels seconds : List ℕ) (shown : ReplicaNumbers) (micros : ℕ)
     → labels ≡ codes "replica=\"" ++ (decimal shown.replica ++ codes "\"") → seconds ≡ seconds_text micros → shown.numbers.lag ≡ Some micros
     → OnOk r (next ≡ text ++ value_line (codes "xds_put_to_last_response_seconds") labels seconds) → OnOk r (next ≡ text ++ lag_line shown)
 same_lag (Ok x) text next labels seconds shown micros worded counted told is =

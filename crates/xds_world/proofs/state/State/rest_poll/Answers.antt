@@ -1,7 +1,7 @@
 use Rattle.std.proofs.Common.{true, sym, subst, ◌∙◌}
 use Rattle.std.specs.Prelude.{IfOk}
 use Rattle.xds_core.specs.Events as events
-use Rattle.xds_world.specs.declared.event.Answer.{Answer}
+use Rattle.xds_world.specs.declared.event.AnswerFate.{AnswerFate}
 use Rattle.xds_world.specs.Happenings as happenings
 use Rattle.xds_world.specs.Worlds.{at_site, poll_event, happens}
 use Rattle.xds_world.specs.Calls.{Gave, Happened}
@@ -18,7 +18,7 @@ returns-in-Arrives-clause-ok g c =
     let q = c.in-Some.request in
     let asks = sym c.in-Some.is ∙ c.in_ok-request.ensures.ok in
     let gave = subst (λ o. Gave events.Rested w o w1 (at_site w r (poll_event t q))) c.in-Some-2.is c.in_ok-answer.ensures.ok in
-    subst (λ (fate : Answer). IfOk c.answer.result (λ b. Happened w b c.answer.new.self (happens g.A.Accept.accepts w (happenings.RestPoll n r t fate)))) (sym c.in-Arrives.is)
+    subst (λ (fate : AnswerFate). IfOk c.answer.result (λ b. Happened w b c.answer.new.self (happens g.A.Accept.accepts w (happenings.RestPoll n r t fate)))) (sym c.in-Arrives.is)
     (rest_within g.A.Accept.accepts w w1 c.answer.new.self n r t q c.in-Some-2.answer asks gave c.answer.result c.answer.ensures.ok)
 
 pub returns-in-Lost-clause-ok : goal.returns-in-Lost-clause-ok
@@ -31,5 +31,5 @@ returns-in-Lost-clause-ok g c =
     let q = c.in-Some.request in
     let asks = sym c.in-Some.is ∙ c.in_ok-request.ensures.ok in
     let gave = subst (λ o. Gave events.Rested w o w1 (at_site w r (poll_event t q))) c.in-Some-2.is c.in_ok-answer.ensures.ok in
-    subst (λ (fate : Answer). Happened w true w1 (happens g.A.Accept.accepts w (happenings.RestPoll n r t fate))) (sym c.in-Lost.is)
+    subst (λ (fate : AnswerFate). Happened w true w1 (happens g.A.Accept.accepts w (happenings.RestPoll n r t fate))) (sym c.in-Lost.is)
     (rest_lost g.A.Accept.accepts w w1 n r t q c.in-Some-2.answer asks gave)

@@ -1,4 +1,0 @@
-use Rattle.xds_changes.proofs.held.Held.take_line.Goals as goal
-
-pub returns-in-Err-clause-refused : goal.returns-in-Err-clause-refused
-returns-in-Err-clause-refused c = c.in-Err.ensures.change

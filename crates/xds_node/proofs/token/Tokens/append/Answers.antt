@@ -1,7 +1,0 @@
-use Rattle.std.proofs.Common.{◌∙◌, sym, arith}
-use Rattle.xds_node.proofs.Balance.{appends}
-use Rattle.xds_node.proofs.token.Tokens.append.Goals as goal
-
-pub compare_exchange_with-found-requires : goal.compare_exchange_with-found-requires
-compare_exchange_with-found-requires g c =
-    (c.token.invariant.0 ∙ sym c.args.self.now.named, omega (arith, c.args.self.now.wide), appends _ _ _ (λ n. n) _ _ (rw c.token.view_is c.requires.0) (rw c.token.view_is c.requires.1))
