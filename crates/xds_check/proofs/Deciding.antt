@@ -1,5 +1,5 @@
 -- Whether a line breaks a rule, by what is kept.
-use Rattle.std.proofs.Common.{◌≡◌, ◌<◌, ℕ, List, [], ◌∷◌, map, Bool, true, false, not, ◌&&◌, ◌||◌, Option, Some, None, refl, sym, ap, subst, ◌∙◌, arith}
+use Rattle.std.proofs.Common.{◌≡◌, ◌<◌, ◌≤◌, ℕ, zero, suc, ◌+◌, List, [], ◌∷◌, map, Bool, true, false, not, ◌&&◌, ◌||◌, Option, Some, None, nat_lt, refl, sym, ap, subst, ◌∙◌, arith, ltb-true, ltb-false}
 use Rattle.std.specs.Prelude.{is_some, bytes_eq, if◌then◌else◌, IfSome}
 use Rattle.std.specs.List.{list_any, list_all, filter}
 use Rattle.std.specs.Option.{option_map_or, option_and_then, option_or, unwrap_or}
@@ -41,15 +41,36 @@ tells_same b c same = (λ is. sym same ∙ is, λ none_so is_so. never (sym is_s
 
 -- ---- the least rule
 
-below_first : (o : Rule) → place o < 1 → ⊥
-below_first FreshNonce lt = omega (arith, lt)
-below_first BestResources lt = omega (arith, lt)
-below_first CoveredResources lt = omega (arith, lt)
-below_first WholeResponse lt = omega (arith, lt)
-below_first RightRemovals lt = omega (arith, lt)
-below_first OneAtATime lt = omega (arith, lt)
-below_first NothingRefusedAgain lt = omega (arith, lt)
-below_first NothingPending lt = omega (arith, lt)
+abbrev pub rule_at : ℕ → Rule
+rule_at zero = FreshNonce
+rule_at (suc zero) = FreshNonce
+rule_at (suc (suc zero)) = BestResources
+rule_at (suc (suc (suc zero))) = CoveredResources
+rule_at (suc (suc (suc (suc zero)))) = WholeResponse
+rule_at (suc (suc (suc (suc (suc zero))))) = RightRemovals
+rule_at (suc (suc (suc (suc (suc (suc zero)))))) = OneAtATime
+rule_at (suc (suc (suc (suc (suc (suc (suc zero))))))) = NothingRefusedAgain
+rule_at (suc (suc (suc (suc (suc (suc (suc (suc n)))))))) = NothingPending
+
+pub rule_at-place : (r : Rule) → rule_at (place r) ≡ r
+rule_at-place FreshNonce = refl
+rule_at-place BestResources = refl
+rule_at-place CoveredResources = refl
+rule_at-place WholeResponse = refl
+rule_at-place RightRemovals = refl
+rule_at-place OneAtATime = refl
+rule_at-place NothingRefusedAgain = refl
+rule_at-place NothingPending = refl
+
+in_range : (r : Rule) → (1 ≤ place r) × (place r ≤ 8)
+in_range FreshNonce = (omega arith, omega arith)
+in_range BestResources = (omega arith, omega arith)
+in_range CoveredResources = (omega arith, omega arith)
+in_range WholeResponse = (omega arith, omega arith)
+in_range RightRemovals = (omega arith, omega arith)
+in_range OneAtATime = (omega arith, omega arith)
+in_range NothingRefusedAgain = (omega arith, omega arith)
+in_range NothingPending = (omega arith, omega arith)
 
 -- what is told of a rule and of those below it
 module _ (Broken : Rule → Type 0) where
@@ -57,77 +78,19 @@ module _ (Broken : Rule → Type 0) where
   NoneBelow n = (o : Rule) → place o < n → ¬ (Broken o)
 
   first_below : NoneBelow 1
-  first_below o lt = absurd (below_first o lt)
+  first_below o lt = absurd (omega (arith, lt, (in_range o).0))
 
-  second_below : ¬ (Broken FreshNonce) → NoneBelow 2
-  second_below none_so FreshNonce lt = none_so
-  second_below none_so BestResources lt = absurd (omega (arith, lt))
-  second_below none_so CoveredResources lt = absurd (omega (arith, lt))
-  second_below none_so WholeResponse lt = absurd (omega (arith, lt))
-  second_below none_so RightRemovals lt = absurd (omega (arith, lt))
-  second_below none_so OneAtATime lt = absurd (omega (arith, lt))
-  second_below none_so NothingRefusedAgain lt = absurd (omega (arith, lt))
-  second_below none_so NothingPending lt = absurd (omega (arith, lt))
+  no_other : (r o : Rule) (less : Bool) → nat_lt (place o) (place r) ≡ less → NoneBelow (place r) → ¬ (Broken r) → place o < place r + 1 → ¬ (Broken o)
+  no_other r o true is below none_so lt = below o (ltb-true (place o) (place r) is)
+  no_other r o false is below none_so lt =
+      let same : place r ≡ place o = omega (arith, lt, ltb-false (place o) (place r) is) in
+      subst (λ (x : Rule). ¬ (Broken x)) (sym (rule_at-place r) ∙ ap rule_at same ∙ rule_at-place o) none_so
 
-  third_below : NoneBelow 2 → ¬ (Broken BestResources) → NoneBelow 3
-  third_below b none_so FreshNonce lt = b FreshNonce (omega arith)
-  third_below b none_so BestResources lt = none_so
-  third_below b none_so CoveredResources lt = absurd (omega (arith, lt))
-  third_below b none_so WholeResponse lt = absurd (omega (arith, lt))
-  third_below b none_so RightRemovals lt = absurd (omega (arith, lt))
-  third_below b none_so OneAtATime lt = absurd (omega (arith, lt))
-  third_below b none_so NothingRefusedAgain lt = absurd (omega (arith, lt))
-  third_below b none_so NothingPending lt = absurd (omega (arith, lt))
+  one_more : (r : Rule) → NoneBelow (place r) → ¬ (Broken r) → NoneBelow (place r + 1)
+  one_more r below none_so o = no_other r o (nat_lt (place o) (place r)) refl below none_so
 
-  fourth_below : NoneBelow 3 → ¬ (Broken CoveredResources) → NoneBelow 4
-  fourth_below b none_so FreshNonce lt = b FreshNonce (omega arith)
-  fourth_below b none_so BestResources lt = b BestResources (omega arith)
-  fourth_below b none_so CoveredResources lt = none_so
-  fourth_below b none_so WholeResponse lt = absurd (omega (arith, lt))
-  fourth_below b none_so RightRemovals lt = absurd (omega (arith, lt))
-  fourth_below b none_so OneAtATime lt = absurd (omega (arith, lt))
-  fourth_below b none_so NothingRefusedAgain lt = absurd (omega (arith, lt))
-  fourth_below b none_so NothingPending lt = absurd (omega (arith, lt))
-
-  fifth_below : NoneBelow 4 → ¬ (Broken WholeResponse) → NoneBelow 5
-  fifth_below b none_so FreshNonce lt = b FreshNonce (omega arith)
-  fifth_below b none_so BestResources lt = b BestResources (omega arith)
-  fifth_below b none_so CoveredResources lt = b CoveredResources (omega arith)
-  fifth_below b none_so WholeResponse lt = none_so
-  fifth_below b none_so RightRemovals lt = absurd (omega (arith, lt))
-  fifth_below b none_so OneAtATime lt = absurd (omega (arith, lt))
-  fifth_below b none_so NothingRefusedAgain lt = absurd (omega (arith, lt))
-  fifth_below b none_so NothingPending lt = absurd (omega (arith, lt))
-
-  sixth_below : NoneBelow 5 → ¬ (Broken RightRemovals) → NoneBelow 6
-  sixth_below b none_so FreshNonce lt = b FreshNonce (omega arith)
-  sixth_below b none_so BestResources lt = b BestResources (omega arith)
-  sixth_below b none_so CoveredResources lt = b CoveredResources (omega arith)
-  sixth_below b none_so WholeResponse lt = b WholeResponse (omega arith)
-  sixth_below b none_so RightRemovals lt = none_so
-  sixth_below b none_so OneAtATime lt = absurd (omega (arith, lt))
-  sixth_below b none_so NothingRefusedAgain lt = absurd (omega (arith, lt))
-  sixth_below b none_so NothingPending lt = absurd (omega (arith, lt))
-
-  seventh_below : NoneBelow 6 → ¬ (Broken OneAtATime) → NoneBelow 7
-  seventh_below b none_so FreshNonce lt = b FreshNonce (omega arith)
-  seventh_below b none_so BestResources lt = b BestResources (omega arith)
-  seventh_below b none_so CoveredResources lt = b CoveredResources (omega arith)
-  seventh_below b none_so WholeResponse lt = b WholeResponse (omega arith)
-  seventh_below b none_so RightRemovals lt = b RightRemovals (omega arith)
-  seventh_below b none_so OneAtATime lt = none_so
-  seventh_below b none_so NothingRefusedAgain lt = absurd (omega (arith, lt))
-  seventh_below b none_so NothingPending lt = absurd (omega (arith, lt))
-
-  none_of_all : NoneBelow 7 → ¬ (Broken NothingRefusedAgain) → ¬ (Broken NothingPending) → (o : Rule) → ¬ (Broken o)
-  none_of_all b none_so last FreshNonce = b FreshNonce (omega arith)
-  none_of_all b none_so last BestResources = b BestResources (omega arith)
-  none_of_all b none_so last CoveredResources = b CoveredResources (omega arith)
-  none_of_all b none_so last WholeResponse = b WholeResponse (omega arith)
-  none_of_all b none_so last RightRemovals = b RightRemovals (omega arith)
-  none_of_all b none_so last OneAtATime = b OneAtATime (omega arith)
-  none_of_all b none_so last NothingRefusedAgain = none_so
-  none_of_all b none_so last NothingPending = last
+  none_of_all : NoneBelow 9 → (o : Rule) → ¬ (Broken o)
+  none_of_all below o = below o (omega (arith, (in_range o).1))
 
 -- the least rule that is broken is told, and none where none is
 abbrev pub TellsLeast : (Rule → Type 0) → Option Rule → Type 0
@@ -143,17 +106,48 @@ first_of b1 b2 b3 b4 b5 b6 b7 =
 first_told : (Broken : Rule → Type 0) (b1 b2 b3 b4 b5 b6 b7 : Bool) → Tells b1 (Broken FreshNonce) → Tells b2 (Broken BestResources) → Tells b3 (Broken CoveredResources) → Tells b4 (Broken WholeResponse)
     → Tells b5 (Broken RightRemovals) → Tells b6 (Broken OneAtATime) → Tells b7 (Broken NothingRefusedAgain) → ¬ (Broken NothingPending) → TellsLeast Broken (first_of b1 b2 b3 b4 b5 b6 b7)
 first_told B true b2 b3 b4 b5 b6 b7 d1 d2 d3 d4 d5 d6 d7 last = (d1.0 refl, first_below B)
-first_told B false true b3 b4 b5 b6 b7 d1 d2 d3 d4 d5 d6 d7 last = (d2.0 refl, second_below B (d1.1 refl))
-first_told B false false true b4 b5 b6 b7 d1 d2 d3 d4 d5 d6 d7 last = (d3.0 refl, third_below B (second_below B (d1.1 refl)) (d2.1 refl))
-first_told B false false false true b5 b6 b7 d1 d2 d3 d4 d5 d6 d7 last = (d4.0 refl, fourth_below B (third_below B (second_below B (d1.1 refl)) (d2.1 refl)) (d3.1 refl))
+first_told B false true b3 b4 b5 b6 b7 d1 d2 d3 d4 d5 d6 d7 last =
+    let below2 = one_more B FreshNonce (first_below B) (d1.1 refl) in
+    (d2.0 refl, below2)
+first_told B false false true b4 b5 b6 b7 d1 d2 d3 d4 d5 d6 d7 last =
+    let below2 = one_more B FreshNonce (first_below B) (d1.1 refl) in
+    let below3 = one_more B BestResources below2 (d2.1 refl) in
+    (d3.0 refl, below3)
+first_told B false false false true b5 b6 b7 d1 d2 d3 d4 d5 d6 d7 last =
+    let below2 = one_more B FreshNonce (first_below B) (d1.1 refl) in
+    let below3 = one_more B BestResources below2 (d2.1 refl) in
+    let below4 = one_more B CoveredResources below3 (d3.1 refl) in
+    (d4.0 refl, below4)
 first_told B false false false false true b6 b7 d1 d2 d3 d4 d5 d6 d7 last =
-    (d5.0 refl, fifth_below B (fourth_below B (third_below B (second_below B (d1.1 refl)) (d2.1 refl)) (d3.1 refl)) (d4.1 refl))
+    let below2 = one_more B FreshNonce (first_below B) (d1.1 refl) in
+    let below3 = one_more B BestResources below2 (d2.1 refl) in
+    let below4 = one_more B CoveredResources below3 (d3.1 refl) in
+    let below5 = one_more B WholeResponse below4 (d4.1 refl) in
+    (d5.0 refl, below5)
 first_told B false false false false false true b7 d1 d2 d3 d4 d5 d6 d7 last =
-    (d6.0 refl, sixth_below B (fifth_below B (fourth_below B (third_below B (second_below B (d1.1 refl)) (d2.1 refl)) (d3.1 refl)) (d4.1 refl)) (d5.1 refl))
+    let below2 = one_more B FreshNonce (first_below B) (d1.1 refl) in
+    let below3 = one_more B BestResources below2 (d2.1 refl) in
+    let below4 = one_more B CoveredResources below3 (d3.1 refl) in
+    let below5 = one_more B WholeResponse below4 (d4.1 refl) in
+    let below6 = one_more B RightRemovals below5 (d5.1 refl) in
+    (d6.0 refl, below6)
 first_told B false false false false false false true d1 d2 d3 d4 d5 d6 d7 last =
-    (d7.0 refl, seventh_below B (sixth_below B (fifth_below B (fourth_below B (third_below B (second_below B (d1.1 refl)) (d2.1 refl)) (d3.1 refl)) (d4.1 refl)) (d5.1 refl)) (d6.1 refl))
+    let below2 = one_more B FreshNonce (first_below B) (d1.1 refl) in
+    let below3 = one_more B BestResources below2 (d2.1 refl) in
+    let below4 = one_more B CoveredResources below3 (d3.1 refl) in
+    let below5 = one_more B WholeResponse below4 (d4.1 refl) in
+    let below6 = one_more B RightRemovals below5 (d5.1 refl) in
+    let below7 = one_more B OneAtATime below6 (d6.1 refl) in
+    (d7.0 refl, below7)
 first_told B false false false false false false false d1 d2 d3 d4 d5 d6 d7 last =
-    none_of_all B (seventh_below B (sixth_below B (fifth_below B (fourth_below B (third_below B (second_below B (d1.1 refl)) (d2.1 refl)) (d3.1 refl)) (d4.1 refl)) (d5.1 refl)) (d6.1 refl)) (d7.1 refl) last
+    let below2 = one_more B FreshNonce (first_below B) (d1.1 refl) in
+    let below3 = one_more B BestResources below2 (d2.1 refl) in
+    let below4 = one_more B CoveredResources below3 (d3.1 refl) in
+    let below5 = one_more B WholeResponse below4 (d4.1 refl) in
+    let below6 = one_more B RightRemovals below5 (d5.1 refl) in
+    let below7 = one_more B OneAtATime below6 (d6.1 refl) in
+    let below8 = one_more B NothingRefusedAgain below7 (d7.1 refl) in
+    none_of_all B (one_more B NothingPending below8 last)
 
 -- ---- a name that a whole response lacks
 

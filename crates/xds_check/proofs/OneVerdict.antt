@@ -1,12 +1,12 @@
 -- A trace at which no rule is broken has no first broken line, and any other has one at most.
-use Rattle.std.proofs.Common.{◌≡◌, ◌<◌, ◌⊎◌, inl, inr, ℕ, zero, suc, ◌+◌, List, [], ◌∷◌, ◌++◌, length, reverse, Bool, true, false, Option, Some, None, nat_lt, refl, sym, ap, subst, ◌∙◌, arith, append_assoc, ltb-false, ltb-true}
+use Rattle.std.proofs.Common.{◌≡◌, ◌<◌, ◌⊎◌, inl, inr, ℕ, ◌+◌, List, [], ◌∷◌, ◌++◌, length, reverse, Bool, true, false, Option, Some, None, nat_lt, refl, sym, ap, subst, ◌∙◌, arith, append_assoc, ltb-false, ltb-true}
 use Rattle.std.proofs.lemmas.List.{reverse-append}
 use Rattle.xds_check.specs.declared.line.Line.{Line}
 use Rattle.xds_check.specs.declared.rule.Rule.{Rule}
-use Rattle.xds_check.specs.declared.rule.Rule.TheVariants.{FreshNonce, BestResources, CoveredResources, WholeResponse, RightRemovals, OneAtATime, NothingRefusedAgain, NothingPending}
 use Rattle.xds_check.specs.Laws.{NoneBrokenHasNoFirst, OneIsFirst}
 use Rattle.xds_check.specs.declared.checking.Broken.{Broken}
 use Rattle.xds_check.specs.Verdicts.{IsVerdict, TellsWell, TellsTheFirst}
+use Rattle.xds_check.proofs.Deciding.{rule_at, rule_at-place}
 use Rattle.xds_check.specs.Rules.{place, Breaks, KeepsRules, AllKeep, NoneBroken, FirstBroken}
 
 -- ---- lines of a trace that keeps the rules
@@ -47,27 +47,6 @@ compared (x ∷ p) (y ∷ q) a b l k same =
     behind_both x y p q l k both.0 (compared p q a b l k both.1)
 
 -- ---- the least rule
-
-abbrev rule_at : ℕ → Rule
-rule_at zero = FreshNonce
-rule_at (suc zero) = FreshNonce
-rule_at (suc (suc zero)) = BestResources
-rule_at (suc (suc (suc zero))) = CoveredResources
-rule_at (suc (suc (suc (suc zero)))) = WholeResponse
-rule_at (suc (suc (suc (suc (suc zero))))) = RightRemovals
-rule_at (suc (suc (suc (suc (suc (suc zero)))))) = OneAtATime
-rule_at (suc (suc (suc (suc (suc (suc (suc zero))))))) = NothingRefusedAgain
-rule_at (suc (suc (suc (suc (suc (suc (suc (suc n)))))))) = NothingPending
-
-rule_at-place : (r : Rule) → rule_at (place r) ≡ r
-rule_at-place FreshNonce = refl
-rule_at-place BestResources = refl
-rule_at-place CoveredResources = refl
-rule_at-place WholeResponse = refl
-rule_at-place RightRemovals = refl
-rule_at-place OneAtATime = refl
-rule_at-place NothingRefusedAgain = refl
-rule_at-place NothingPending = refl
 
 neither_less : (m n : ℕ) → nat_lt m n ≡ false → nat_lt n m ≡ false → m ≡ n
 neither_less m n a b = omega (arith, ltb-false m n a, ltb-false n m b)
