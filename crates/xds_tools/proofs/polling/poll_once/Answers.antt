@@ -10,8 +10,8 @@ use Rattle.xds_tools.proofs.polling.poll_once.Goals as goal
 
 pub returns-in-Some : goal.returns-in-Some
 returns-in-Some g c =
-    let asked = subst (λ q. IsPolled (g.P.Posts.tells (V4 c.task.inside.addr) c.task.inside.seconds) q c.poll_by-polled.result) c.question_of.ensures c.poll_by-polled.ensures.polled in
-    let polled = subst (λ (t : Look). IsPolled (g.P.Posts.tells (V4 t.addr) t.seconds) (question_of c.args.task) c.poll_by-polled.result) c.task.view_is asked in
+    let asked = subst (λ q. IsPolled (g.P.PostsRequests.tells (V4 c.task.inside.addr) c.task.inside.seconds) q c.poll_by-polled.result) c.question_of.ensures c.poll_by-polled.ensures.polled in
+    let polled = subst (λ (t : Look). IsPolled (g.P.PostsRequests.tells (V4 t.addr) t.seconds) (question_of c.args.task) c.poll_by-polled.result) c.task.view_is asked in
     let late = shows_late _ _ _ _ _ _ c.in-Some.ensures.0 c.in-Some.ensures.1 (Keeps-refl _) c.tell_late.ensures.told c.tell_late.ensures.status in (
       c.poll_by-polled.result,
       polled,
@@ -20,6 +20,6 @@ returns-in-Some g c =
 
 pub returns : goal.returns
 returns g c =
-    let asked = subst (λ q. IsPolled (g.P.Posts.tells (V4 c.task.inside.addr) c.task.inside.seconds) q c.poll_by-polled.result) c.question_of.ensures c.poll_by-polled.ensures.polled in
-    let polled = subst (λ (t : Look). IsPolled (g.P.Posts.tells (V4 t.addr) t.seconds) (question_of c.args.task) c.poll_by-polled.result) c.task.view_is asked in
+    let asked = subst (λ q. IsPolled (g.P.PostsRequests.tells (V4 c.task.inside.addr) c.task.inside.seconds) q c.poll_by-polled.result) c.question_of.ensures c.poll_by-polled.ensures.polled in
+    let polled = subst (λ (t : Look). IsPolled (g.P.PostsRequests.tells (V4 t.addr) t.seconds) (question_of c.args.task) c.poll_by-polled.result) c.task.view_is asked in
     (c.poll_by-polled.result, polled, inl c.show.ensures)
