@@ -1,14 +1,14 @@
 -- That a change made in place leaves what a response says, and that what was added is taken out again.
-use Rattle.std.proofs.Common.{◌≡◌, ℕ, suc, ◌+◌, ◌<◌, List, [], ◌∷◌, ◌++◌, length, map, take, drop, Bor, Bool, true, false, cond, ◌||◌, ◌&&◌, not, Option, Some, None, refl, sym, ap, subst, ◌∙◌, arith}
+use Rattle.std.proofs.Common.{◌≡◌, ℕ, suc, ◌+◌, ◌<◌, List, [], ◌∷◌, length, take, drop, Bor, Bool, true, false, cond, ◌||◌, ◌&&◌, not, Option, Some, None, refl, sym, ap, subst, ◌∙◌}
 use Rattle.std.proofs.Math.ListN.{get_or}
 use Rattle.std.proofs.Math.Seq.{drop-cons, split_at}
+use Rattle.std.proofs.Math.Numerals.{suc-eq-add-one}
 use Rattle.std.specs.Prelude.{bytes_eq, is_some, if◌then◌else◌}
 use Rattle.std.specs.Option.{option_or}
-use Rattle.std.specs.List.{filter}
 use Rattle.std.specs.FinMap as finmap
 use Rattle.xds_resource.specs.declared.types.TypeName.{TypeName}
 use Rattle.xds_resource.specs.Names.{put_some, put_each}
-use Rattle.xds_resource.proofs.NameMaps.{has_text, same_names, get-insert, get-remove, bytes_eq_tells, bytes_eq_swap, bytes_eq_same, has_text-keys, cond_same}
+use Rattle.xds_resource.proofs.NameMaps.{has_text, same_names, get-insert, get-remove, bytes_eq_tells, bytes_eq_swap, has_text-keys, cond_same, removed_step, added_step, texts_of, listed_behind, filtered}
 use Rattle.xds_resource.proofs.MadeMaps.{get-put_each}
 use Rattle.xds_cache.specs.Shelves.{Wants, Holding, Cache, is_wanted, kept_of}
 use Rattle.xds_cache.specs.Deliveries.{shown, cache_after}
@@ -17,41 +17,17 @@ use Rattle.xds_cache.proofs.Making.{get-cache_after, get-kept_of}
 
 -- ---- what was added is taken out again
 
-removed_step : {X : Type 0} (here later : Bool) (o : Option X) → cond later None (cond here None o) ≡ cond (here || later) None o
-removed_step true later o = cond_same later None
-removed_step false later o = refl
-
 get-removed_all : (held : Cache) (ns : List (List ℕ)) (q : List ℕ) → finmap.get (removed_all held ns) q ≡ cond (has_text ns q) None (finmap.get held q)
 get-removed_all held [] q = refl
 get-removed_all held (n ∷ ns) q =
     get-removed_all (finmap.remove held n) ns q ∙ ap (cond (has_text ns q) None) (get-remove held n q) ∙ removed_step (bytes_eq n q) (has_text ns q) (finmap.get held q)
     ∙ ap (λ x. cond (x || has_text ns q) None (finmap.get held q)) (bytes_eq_swap n q)
 
-added_step : {X : Type 0} (listed here : Bool) (x o : Option X) → (here ≡ true → listed ≡ true) → cond listed None (cond here x o) ≡ cond listed None o
-added_step true here x o in_it = refl
-added_step false true x o in_it = let listed = in_it refl in absurd cc
-added_step false false x o in_it = refl
-
 removed_added : (held : Cache) (ns : List (List ℕ)) (n : List ℕ) (o : Option Holding) → has_text ns n ≡ true → removed_all (put_some held n o) ns ≡ removed_all held ns
 removed_added held ns n None listed = refl
 removed_added held ns n (Some h) listed =
     same_names _ _ (λ q. get-removed_all (finmap.insert held n h) ns q ∙ ap (cond (has_text ns q) None) (get-insert held n h q)
     ∙ added_step (has_text ns q) (bytes_eq n q) (Some h) (finmap.get held q) (λ same. sym (ap (has_text ns) (bytes_eq_tells n q same)) ∙ listed) ∙ sym (get-removed_all held ns q))
-
-or_true : (b : Bool) → (b || true) ≡ true
-or_true true = refl
-or_true false = refl
-
--- texts that are borrowed
-abbrev pub texts_of : List (Bor (List ℕ)) → List (List ℕ)
-texts_of ns = map (λ n. n.now) ns
-
-listed_behind : (xs : List (Bor (List ℕ))) (x : Bor (List ℕ)) (ys : List (Bor (List ℕ))) → has_text (texts_of (xs ++ x ∷ ys)) x.now ≡ true
-listed_behind [] x ys = λ i. bytes_eq_same x.now i || has_text (texts_of ys) x.now
-listed_behind (y ∷ xs) x ys = ap (λ b. bytes_eq x.now y.now || b) (listed_behind xs x ys) ∙ or_true (bytes_eq x.now y.now)
-
-one_more : (i : ℕ) → i + 1 ≡ suc i
-one_more i = omega arith
 
 abbrev added : Cache → Cache → List (Bor (List ℕ)) → Cache
 added stated held ns = put_each (finmap.get stated) held (texts_of ns)
@@ -61,27 +37,11 @@ pub added_next : (stated now start after : Cache) (ns : List (Bor (List ℕ))) (
     → (added stated now (drop i ns) ≡ added stated start ns) × (removed_all now (texts_of ns) ≡ start) → (added stated after (drop (i + 1) ns) ≡ added stated start ns) × (removed_all after (texts_of ns) ≡ start)
 added_next stated now start after ns i d there is before =
     let x : Bor (List ℕ) = get_or ns i d in (
-      (λ j. added stated (is j) (drop (one_more i j) ns)) ∙ sym (ap (added stated now) (drop-cons ns i d there)) ∙ before.0,
+      (λ j. added stated (is j) (drop (sym (suc-eq-add-one i) j) ns)) ∙ sym (ap (added stated now) (drop-cons ns i d there)) ∙ before.0,
       ap (λ (m : Cache). removed_all m (texts_of ns)) is ∙ removed_added now (texts_of ns) x.now (finmap.get stated x.now) (ap (λ l. has_text (texts_of l) x.now) (split_at ns i d there) ∙ listed_behind (take i ns) x (drop (suc i) ns)) ∙ before.1,
     )
 
 -- ---- which names are new
-
-filter_step : (p : List ℕ → Bool) (n : List ℕ) (ns : List (List ℕ)) (q : List ℕ) (passes here : Bool) → p n ≡ passes → bytes_eq q n ≡ here → (here ≡ true → p q ≡ passes)
-    → has_text (filter p ns) q ≡ (has_text ns q && p q) → has_text (cond passes (n ∷ filter p ns) (filter p ns)) q ≡ ((here || has_text ns q) && p q)
-filter_step p n ns q true true is same there rest = (λ i. same i || has_text (filter p ns) q) ∙ sym (there refl)
-filter_step p n ns q true false is other there rest = (λ i. other i || has_text (filter p ns) q) ∙ rest
-filter_step p n ns q false true is same there rest = rest ∙ ap (λ b. has_text ns q && b) (there refl) ∙ never (has_text ns q) ∙ sym (there refl)
-  where
-    never : (b : Bool) → (b && false) ≡ false
-    never true = refl
-    never false = refl
-filter_step p n ns q false false is other there rest = rest
-
-filtered : (p : List ℕ → Bool) (ns : List (List ℕ)) (q : List ℕ) → has_text (filter p ns) q ≡ (has_text ns q && p q)
-filtered p [] q = refl
-filtered p (n ∷ ns) q =
-    filter_step p n ns q (p n) (bytes_eq q n) refl refl (λ same. ap p (bytes_eq_tells q n same)) (filtered p ns q)
 
 new_absent : (listed wanted : Bool) (old : Option Holding) → cond (listed && (wanted && not (is_some old))) None old ≡ old
 new_absent true true None = refl

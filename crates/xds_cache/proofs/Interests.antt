@@ -1,5 +1,6 @@
 -- That what clients want is what a server makes of their requests.
-use Rattle.std.proofs.Common.{◌≡◌, ℕ, List, [], ◌∷◌, map, length, Bool, true, false, cond, ◌||◌, ◌&&◌, not, Option, Some, None, refl, sym, ap, ◌∙◌}
+use Rattle.std.proofs.Common.{◌≡◌, ℕ, List, [], map, Bool, true, false, cond, ◌||◌, ◌&&◌, not, Option, Some, None, refl, sym, ap, ◌∙◌}
+use Rattle.std.proofs.lemmas.List.{nil_from_length}
 use Rattle.std.specs.Prelude.{is_some, if◌then◌else◌}
 use Rattle.std.specs.FinMap as finmap
 use Rattle.std.specs.FinSet as set
@@ -100,12 +101,8 @@ change_is_asked t cluster s u b =
 
 -- ---- first requests
 
-none_left : {X : Type 0} (xs : List X) → length xs ≡ 0 → xs ≡ []
-none_left [] e = refl
-none_left (x ∷ xs) e = absurd cc
-
-no_texts : texts finmap.empty ≡ []
-no_texts = ap (map (λ e. e.0)) (none_left (finmap.entries finmap.empty) (sym (finmap.len-entries finmap.empty) ∙ finmap.len-empty text_cmp (Unit {0})))
+pub no_texts : texts finmap.empty ≡ []
+no_texts = ap (map (λ e. e.0)) (nil_from_length (finmap.entries finmap.empty) (sym (finmap.len-entries finmap.empty) ∙ finmap.len-empty text_cmp (Unit {0})))
 
 -- rule: listed-names
 pub list_is_asked : ListIsAsked

@@ -8,18 +8,15 @@ use Rattle.xds_resource.specs.Writes.{text_cmp}
 use Rattle.xds_resource.specs.Names.{put_all, put_each}
 use Rattle.xds_resource.proofs.NameMaps.{has_text, same_names, get-tabulate, get-tabulated, in_neither, absent_key}
 use Rattle.xds_resource.proofs.MadeMaps.{get-put_all, get-put_each}
+use Rattle.xds_resource.proofs.BoolsAndLists.{option_or-None}
 use Rattle.xds_cache.specs.Shelves.{Wants, Cache, Holding, marked, wants_of, marked_after, wants_after, is_wanted, kept, kept_of}
 use Rattle.xds_cache.specs.Deliveries.{shown_after, cache_after}
 use Rattle.xds_cache.specs.Shelves.{cached_version, cached_versions}
 use Rattle.xds_cache.specs.Parts.{unless_dropped, as_before, left, added, version_told}
 
-or_none : {X : Type 0} (o : Option X) → option_or o None ≡ o
-or_none None = refl
-or_none (Some x) = refl
-
 -- what is put from an empty map on is what is tabulated
 put_each_at : (b : Bool) (o e : Option (Unit {0})) → e ≡ None → cond b (option_or o e) e ≡ cond b o None
-put_each_at b o e none = (λ i. cond b (option_or o (none i)) (none i)) ∙ ap (λ x. cond b x None) (or_none o)
+put_each_at b o e none = (λ i. cond b (option_or o (none i)) (none i)) ∙ ap (λ x. cond b x None) (option_or-None o)
 
 pub put_each-wants_of : (names : List (List ℕ)) → put_each marked finmap.empty names ≡ wants_of names
 put_each-wants_of names = same_names _ _ (λ q.
@@ -30,7 +27,7 @@ put_each-wants_of names = same_names _ _ (λ q.
 pub get-put_fresh : {X Y : Type 0} (f : List ℕ → X → Option Y) (m : finmap.FinMap text_cmp X) (q : List ℕ)
     → finmap.get (put_all f finmap.empty (finmap.entries m)) q ≡ option_and_then (f q) (finmap.get m q)
 get-put_fresh f m q =
-    get-put_all f finmap.empty m q ∙ ap (λ e. option_or (option_and_then (f q) (finmap.get m q)) e) (finmap.get-empty text_cmp q) ∙ or_none (option_and_then (f q) (finmap.get m q))
+    get-put_all f finmap.empty m q ∙ ap (λ e. option_or (option_and_then (f q) (finmap.get m q)) e) (finmap.get-empty text_cmp q) ∙ option_or-None (option_and_then (f q) (finmap.get m q))
 
 -- ---- texts
 

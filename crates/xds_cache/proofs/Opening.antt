@@ -1,14 +1,12 @@
 -- The first requests on a stream, made type by type.
 use Rattle.std.proofs.Common.{◌≡◌, ℕ, ◌+◌, ◌<◌, ◌≤◌, List, [], ◌∷◌, ◌++◌, drop, length, get_or, Bool, true, false, sym, ap, ◌∙◌, append_assoc}
 use Rattle.std.specs.Prelude.{if◌then◌else◌}
-use Rattle.std.proofs.lemmas.List.{drop_more, drop_all, append-nil}
+use Rattle.std.proofs.lemmas.List.{drop_all, append-nil}
 use Rattle.xds_resource.specs.declared.types.TypeName.{TypeName}
+use Rattle.xds_resource.proofs.BoolsAndLists.{drop_here}
 use Rattle.xds_cache.specs.Shelves.{wants_some}
 use Rattle.xds_cache.specs.Clients.{Client, shelf}
 use Rattle.xds_cache.specs.Sends.{first_requests, is_greeted}
-
-next_one : (ts : List TypeName) (i : ℕ) (t d : TypeName) → i < length ts → t ≡ get_or ts i d → drop i ts ≡ t ∷ drop (i + 1) ts
-next_one ts i t d within is = drop_more ts i d within ∙ ap (λ y. y ∷ drop (i + 1) ts) (sym is)
 
 module _ {X : Type 0} (make : TypeName → Bool → X) (c : Client) (ts : List TypeName) (i : ℕ) (greeted : Bool) where
   pub asked_more : (t d : TypeName) (so_far next w : List X) (q : X) → i < length ts → t ≡ get_or ts i d → wants_some (shelf c t).wants ≡ true → q ≡ make t greeted → next ≡ so_far ++ q ∷ []
@@ -17,14 +15,14 @@ module _ {X : Type 0} (make : TypeName → Bool → X) (c : Client) (ts : List T
       ap (λ l. l ++ first_requests make c true (drop (i + 1) ts)) pushed
       ∙ append_assoc so_far (q ∷ []) (first_requests make c true (drop (i + 1) ts))
       ∙ ap (λ x. so_far ++ (x ∷ first_requests make c true (drop (i + 1) ts))) made
-      ∙ sym (ap (λ l. so_far ++ first_requests make c greeted l) (next_one ts i t d within is)
+      ∙ sym (ap (λ l. so_far ++ first_requests make c greeted l) (drop_here ts i t d within is)
       ∙ ap (λ b. so_far ++ (if b then make t greeted ∷ first_requests make c true (drop (i + 1) ts) else first_requests make c greeted (drop (i + 1) ts))) wanted)
       ∙ before
 
   pub passed_over : (t d : TypeName) (so_far w : List X) → i < length ts → t ≡ get_or ts i d → wants_some (shelf c t).wants ≡ false
       → so_far ++ first_requests make c greeted (drop i ts) ≡ w → so_far ++ first_requests make c greeted (drop (i + 1) ts) ≡ w
   passed_over t d so_far w within is unwanted before =
-      sym (ap (λ l. so_far ++ first_requests make c greeted l) (next_one ts i t d within is)
+      sym (ap (λ l. so_far ++ first_requests make c greeted l) (drop_here ts i t d within is)
       ∙ ap (λ b. so_far ++ (if b then make t greeted ∷ first_requests make c true (drop (i + 1) ts) else first_requests make c greeted (drop (i + 1) ts))) unwanted)
       ∙ before
 
@@ -35,7 +33,7 @@ module _ (c : Client) (ts : List TypeName) (i : ℕ) (greeted : Bool) where
   pub greeted_more : (t d : TypeName) (w b : Bool) → i < length ts → t ≡ get_or ts i d → wants_some (shelf c t).wants ≡ b
       → is_greeted c greeted (drop i ts) ≡ w → is_greeted c (if b then true else greeted) (drop (i + 1) ts) ≡ w
   greeted_more t d w b within is wanted before =
-      sym (ap (is_greeted c greeted) (next_one ts i t d within is) ∙ ap (λ x. is_greeted c (if x then true else greeted) (drop (i + 1) ts)) wanted) ∙ before
+      sym (ap (is_greeted c greeted) (drop_here ts i t d within is) ∙ ap (λ x. is_greeted c (if x then true else greeted) (drop (i + 1) ts)) wanted) ∙ before
 
   pub all_greeted : (w : Bool) → length ts ≤ i → is_greeted c greeted (drop i ts) ≡ w → greeted ≡ w
   all_greeted w all before = sym (ap (is_greeted c greeted) (drop_all i ts all)) ∙ before

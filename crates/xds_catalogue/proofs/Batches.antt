@@ -115,10 +115,6 @@ kept_at (Some e) rest t is sound = absurd cc
 pub kept : (t next : TwoMaps) (d : PutAside) (rest : List PutAside) → option_map (λ e. e.change) d.former ≡ None → IsSoundBut (former_numbers (d ∷ rest)) t → next ≡ t → IsSoundBut (former_numbers rest) next
 kept t next d rest is sound same = subst (IsSoundBut (former_numbers rest)) (sym same) (kept_at d.former (former_numbers rest) t is sound)
 
-pub none_left : {X : Type 0} (xs : List X) → length xs ≡ 0 → xs ≡ []
-none_left [] e = refl
-none_left (x ∷ xs) e = absurd (omega arith)
-
 pub length_take : (n : ℕ) (ws : List StampedWrite) → length (take n ws) ≤ n
 length_take zero ws = omega arith
 length_take (suc n) [] = omega arith

@@ -11,11 +11,12 @@ use Rattle.std.specs.BTreeMap as tree
 use Rattle.std.specs.FinMap as finmap
 use Rattle.std.specs.FinMap.{nat_cmp-IsAntisymmetric}
 use Rattle.std.specs.FinMap.Entries.{below_all, is_sorted, same_entries}
-use Rattle.xds_resource.proofs.MadeMaps.{holds_first, holds_second, less_is_no_tie}
+use Rattle.xds_resource.proofs.MadeMaps.{less_is_no_tie}
 use Rattle.xds_catalogue.specs.Tables.{by_number}
 use Rattle.xds_catalogue.proofs.Lookups.{remove-none, tie_told}
 use Rattle.xds_catalogue.proofs.MapViews.{get-by_number, by_number-insert, by_number-remove}
 use Rattle.xds_resource.proofs.NameMaps.{none_by_is_some, both_true, both_hold}
+use Rattle.xds_resource.proofs.BoolsAndLists.{holds_first, holds_second, option_or-None}
 
 -- a map as its entries show it
 abbrev pub numbered : {X : Type 0} → BTreeMap ℕ X → finmap.FinMap nat_cmp X
@@ -87,12 +88,8 @@ get-put_entries m (e ∷ es) q sorted =
     ∙ ap (option_or (finmap.find nat_cmp q es)) (finmap.get-insert nat_cmp_total m e.0 e.1 q)
     ∙ chosen (is_eq (nat_cmp q e.0)) e.1 (finmap.find nat_cmp q es) (finmap.get m q) (find_above e.0 q es (holds_first (below_all nat_cmp e.0 es) (is_sorted nat_cmp es) sorted))
 
-or_none : {X : Type 0} (o : Option X) → option_or o None ≡ o
-or_none None = refl
-or_none (Some x) = refl
-
 -- a map whose entries were put into an empty one
 pub made_again : {X : Type 0} (m : finmap.FinMap nat_cmp X) → put_entries finmap.empty (finmap.entries m) ≡ m
 made_again m =
     finmap.same_map nat_cmp_total nat_cmp-IsAntisymmetric _ _ (λ q. get-put_entries finmap.empty (finmap.entries m) q (finmap.entries_sorted m)
-    ∙ ap (option_or (finmap.find nat_cmp q (finmap.entries m))) (finmap.get-empty nat_cmp q) ∙ or_none (finmap.find nat_cmp q (finmap.entries m)) ∙ sym (finmap.get-entries m q))
+    ∙ ap (option_or (finmap.find nat_cmp q (finmap.entries m))) (finmap.get-empty nat_cmp q) ∙ option_or-None (finmap.find nat_cmp q (finmap.entries m)) ∙ sym (finmap.get-entries m q))

@@ -14,6 +14,7 @@ use Rattle.xds_resource.proofs.BestWrites.{best_is_greatest, best_of_both}
 use Rattle.xds_resource.proofs.WriteTies.{text_cmp-IsAntisymmetric}
 use Rattle.xds_catalogue.specs.Holdings.{Entries, catalogue_of, IsCatalogue}
 use Rattle.xds_resource.proofs.NameMaps.{bytes_eq_tells, bytes_eq_same}
+use Rattle.xds_resource.proofs.BoolsAndLists.{holds_second}
 
 bytes_eq_swap_at : (x y : List ℕ) (b c : Bool) → bytes_eq x y ≡ b → bytes_eq y x ≡ c → b ≡ c
 bytes_eq_swap_at x y true true e f = refl
@@ -89,10 +90,6 @@ less_first : (a b : Bool) → T (a && b) → a ≡ true
 less_first true b h = refl
 less_first false b h = absurd h
 
-less_rest : (a b : Bool) → T (a && b) → T b
-less_rest true b h = h
-less_rest false b h = absurd h
-
 not_tied : (o : Ordering) → is_lt o ≡ true → is_eq o ≡ false
 not_tied Less e = refl
 not_tied Equal e = absurd cc
@@ -102,7 +99,7 @@ pub find_below : (q : List ℕ) (es : List (List ℕ × StampedWrite)) → T (be
 find_below q [] h = refl
 find_below q (e ∷ es) h =
     ap (λ b. cond b (Some e.1) (finmap.find text_cmp q es)) (not_tied (text_cmp q e.0) (less_first (is_lt (text_cmp q e.0)) (below_all text_cmp q es) h))
-    ∙ find_below q es (less_rest (is_lt (text_cmp q e.0)) (below_all text_cmp q es) h)
+    ∙ find_below q es (holds_second (is_lt (text_cmp q e.0)) (below_all text_cmp q es) h)
 
 head_named : (e : List ℕ × StampedWrite) (es : List (List ℕ × StampedWrite)) → AreNamed (e ∷ es) → e.1.name ≡ e.0
 head_named e es named =
@@ -129,7 +126,7 @@ best-sorted (e ∷ es) sorted named q =
     let below : T (below_all text_cmp e.0 es) = below_first (below_all text_cmp e.0 es) (is_sorted text_cmp es) sorted in
     let rest : AreNamed es = λ k. rest_named_at e k _ (eq_by_cmp text_cmp k e.0) (none_tied e es k below) (named k) in
     let tie : bytes_eq e.1.name q ≡ eq_by_cmp text_cmp q e.0 = ap (λ n. bytes_eq n q) (head_named e es named) ∙ sym (tie-bytes_eq q e.0) in
-    (λ i. greater (if tie i then Some e.1 else None) (best-sorted es (less_rest (below_all text_cmp e.0 es) _ sorted) rest q i))
+    (λ i. greater (if tie i then Some e.1 else None) (best-sorted es (holds_second (below_all text_cmp e.0 es) _ sorted) rest q i))
     ∙ best_at_head e.1 _ (eq_by_cmp text_cmp q e.0) (none_tied e es q below)
   where
     below_first : (a b : Bool) → T (a && b) → T a

@@ -23,14 +23,7 @@ use Rattle.xds_catalogue.specs.Content.{is_live, is_shown, if_live, live_at, con
 use Rattle.xds_catalogue.specs.Tables.{by_text}
 use Rattle.xds_catalogue.proofs.Catalogues.{find_below, none_tied}
 use Rattle.xds_resource.proofs.NameMaps.{both_true, both_hold}
-
-first_holds : (a b : Bool) → T (a && b) → T a
-first_holds true b h = tt
-first_holds false b h = absurd h
-
-rest_holds : (a b : Bool) → T (a && b) → T b
-rest_holds true b h = h
-rest_holds false b h = absurd h
+use Rattle.xds_resource.proofs.BoolsAndLists.{holds_first, holds_second}
 
 abbrev seen : {X Y Z : Type 0} → (X → Z) → List (String Y × X) → List (List ℕ × Z)
 seen f es = map (λ e. (string_bytes e.0, f e.1)) es
@@ -63,8 +56,8 @@ shown_of s es = filter (λ e. is_shown s e.1) es
 
 below_shown : (s : Selection) (k : List ℕ) (e : List ℕ × StampedWrite) (es rest : List (List ℕ × StampedWrite)) (b : Bool) → T (is_lt (text_cmp k e.0) && below_all text_cmp k es) → (T (below_all text_cmp k es) → T (below_all text_cmp k rest))
     → T (below_all text_cmp k (cond b (e ∷ rest) rest))
-below_shown s k e es rest true h keeps = both_hold (is_lt (text_cmp k e.0)) (below_all text_cmp k rest) (first_holds (is_lt (text_cmp k e.0)) _ h) (keeps (rest_holds (is_lt (text_cmp k e.0)) _ h))
-below_shown s k e es rest false h keeps = keeps (rest_holds (is_lt (text_cmp k e.0)) _ h)
+below_shown s k e es rest true h keeps = both_hold (is_lt (text_cmp k e.0)) (below_all text_cmp k rest) (holds_first (is_lt (text_cmp k e.0)) _ h) (keeps (holds_second (is_lt (text_cmp k e.0)) _ h))
+below_shown s k e es rest false h keeps = keeps (holds_second (is_lt (text_cmp k e.0)) _ h)
 
 below_kept : (s : Selection) (k : List ℕ) (es : List (List ℕ × StampedWrite)) → T (below_all text_cmp k es) → T (below_all text_cmp k (shown_of s es))
 below_kept s k [] h = tt
@@ -77,7 +70,7 @@ sorted_at e rest false below sorted = sorted
 sorted_kept : (s : Selection) (es : List (List ℕ × StampedWrite)) → T (is_sorted text_cmp es) → T (is_sorted text_cmp (shown_of s es))
 sorted_kept s [] h = tt
 sorted_kept s (e ∷ es) h =
-    sorted_at e (shown_of s es) (is_shown s e.1) (below_kept s e.0 es (first_holds (below_all text_cmp e.0 es) (is_sorted text_cmp es) h)) (sorted_kept s es (rest_holds (below_all text_cmp e.0 es) (is_sorted text_cmp es) h))
+    sorted_at e (shown_of s es) (is_shown s e.1) (below_kept s e.0 es (holds_first (below_all text_cmp e.0 es) (is_sorted text_cmp es) h)) (sorted_kept s es (holds_second (below_all text_cmp e.0 es) (is_sorted text_cmp es) h))
 
 found_kept : (s : Selection) (q : List ℕ) (e : List ℕ × StampedWrite) (es rest : List (List ℕ × StampedWrite)) (b t : Bool) → is_shown s e.1 ≡ b → eq_by_cmp text_cmp q e.0 ≡ t → (t ≡ true → finmap.find text_cmp q es ≡ None)
     → finmap.find text_cmp q rest ≡ option_and_then (if_shown s) (finmap.find text_cmp q es) → finmap.find text_cmp q (cond b (e ∷ rest) rest) ≡ option_and_then (if_shown s) (cond t (Some e.1) (finmap.find text_cmp q es))
@@ -89,8 +82,8 @@ found_kept s q e es rest false false shown tie none same = same
 find-kept : (s : Selection) (q : List ℕ) (es : List (List ℕ × StampedWrite)) → T (is_sorted text_cmp es) → finmap.find text_cmp q (shown_of s es) ≡ option_and_then (if_shown s) (finmap.find text_cmp q es)
 find-kept s q [] h = refl
 find-kept s q (e ∷ es) h =
-    found_kept s q e es (shown_of s es) (is_shown s e.1) (eq_by_cmp text_cmp q e.0) refl refl (λ tie. none_tied e es q (first_holds (below_all text_cmp e.0 es) (is_sorted text_cmp es) h) tie)
-    (find-kept s q es (rest_holds (below_all text_cmp e.0 es) (is_sorted text_cmp es) h))
+    found_kept s q e es (shown_of s es) (is_shown s e.1) (eq_by_cmp text_cmp q e.0) refl refl (λ tie. none_tied e es q (holds_first (below_all text_cmp e.0 es) (is_sorted text_cmp es) h) tie)
+    (find-kept s q es (holds_second (below_all text_cmp e.0 es) (is_sorted text_cmp es) h))
 
 values_at : (e : List ℕ × StampedWrite) (b : Bool) (rest : List (List ℕ × StampedWrite)) (ws : List StampedWrite) → map (λ e. e.1) rest ≡ ws → map (λ e. e.1) (cond b (e ∷ rest) rest) ≡ cond b (e.1 ∷ ws) ws
 values_at e true rest ws same = ap (λ l. e.1 ∷ l) same

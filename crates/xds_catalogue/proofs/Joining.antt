@@ -3,6 +3,7 @@ use Rattle.std.proofs.Common.{◌≡◌, ◌≢◌, ℕ, ◌+◌, ◌<◌, ◌�
 use Rattle.std.specs.Prelude.{nat_lt}
 use Rattle.std.specs.FinMap as finmap
 use Rattle.std.proofs.lemmas.Bool.{ltb-true, lt-ltb, le-ltb}
+use Rattle.std.proofs.Math.Nat.{add_assoc}
 use Rattle.xds_resource.specs.declared.refusal.Refusal.{Refusal}
 use Rattle.xds_resource.specs.declared.refusal.Refusal.TheVariants.{CounterSpent}
 use Rattle.xds_resource.specs.Stamps.{max_counter}
@@ -14,9 +15,6 @@ use Rattle.xds_catalogue.proofs.Catalogues.{best-entries_of, catalogue_of-entrie
 use Rattle.xds_catalogue.proofs.News.{changes_after-same, changes_after-append}
 use Rattle.xds_catalogue.proofs.Lookups.{from_entries-entries}
 use Rattle.xds_catalogue.proofs.OneWrite.{changed, joined-news, joined-old, change_list-same, change_list-append}
-
-sum_assoc : (a b c : ℕ) → (a + b) + c ≡ a + (b + c)
-sum_assoc a b c = omega arith
 
 -- writes that come later change what the earlier ones and they change together
 pub changes_by-append : (h : Holdings) (v w : List StampedWrite) → changes_by h (v ++ w) ≡ changes_by h v + changes_by (joined h v) w
@@ -37,7 +35,7 @@ latest_again h v w =
 pub joined_again : (h : Holdings) (v w : List StampedWrite) → joined (joined h v) w ≡ joined h (v ++ w)
 joined_again h v w =
     let at_once = catalogue_of-entries (finmap.values h.entries ++ v) w ∙ ap catalogue_of (append_assoc (finmap.values h.entries) v w) in
-    let counts = sum_assoc h.changes (changes_by h v) (changes_by (joined h v) w) ∙ ap (λ n. h.changes + n) (sym (changes_by-append h v w)) in
+    let counts = add_assoc h.changes (changes_by h v) (changes_by (joined h v) w) ∙ ap (λ n. h.changes + n) (sym (changes_by-append h v w)) in
     λ i. record { entries = at_once i; changes = counts i; latest = latest_again h v w i }
 
 -- what a join that was not refused says

@@ -1,15 +1,13 @@
 -- The numbers that changes leave over.
 use Rattle.std.proofs.Common.{◌≡◌, ◌⊎◌, inl, inr, ℕ, List, [], ◌∷◌, ◌++◌, Option, Some, None, sym, ap, ◌∙◌}
+use Rattle.std.proofs.lemmas.Option.{same_Some}
 use Rattle.std.specs.Prelude.{◌↔◌}
 use Rattle.std.specs.Option.{option_map}
 use Rattle.xds_catalogue.specs.Tables.{NumberedWrite, PutAside, IsAmong, former_number, former_numbers}
 
-pub some_same : (m n : ℕ) → Some m ≡ Some n → m ≡ n
-some_same m n e = cc
-
 -- of one change, that had a number before or none
 pub one_left : (o : Option ℕ) (n k : ℕ) → o ≡ Some n → IsAmong k (n ∷ []) ↔ (IsAmong k [] ⊎ (o ≡ Some k))
-one_left o n k is = (λ among. elim among [ inl same ↦ inr (is ∙ ap Some (sym same)) | inr none ↦ absurd none ], λ either. elim either [ inl none ↦ absurd none | inr here ↦ inl (some_same k n (sym here ∙ is)) ])
+one_left o n k is = (λ among. elim among [ inl same ↦ inr (is ∙ ap Some (sym same)) | inr none ↦ absurd none ], λ either. elim either [ inl none ↦ absurd none | inr here ↦ inl (same_Some k n (sym here ∙ is)) ])
 
 pub none_left_over : (o : Option ℕ) (k : ℕ) → o ≡ None → IsAmong k [] ↔ (IsAmong k [] ⊎ (o ≡ Some k))
 none_left_over o k is = (λ none. absurd none, λ either. elim either [ inl none ↦ none | inr here ↦ absurd cc ])
@@ -29,7 +27,7 @@ among_append k (m ∷ ms) ns = (
 
 pub among_former : (k : ℕ) (f : Option NumberedWrite) → IsAmong k (former_number f) ↔ (option_map (λ e. e.change) f ≡ Some k)
 among_former k None = (λ none. absurd none, λ e. absurd cc)
-among_former k (Some e) = (λ among. elim among [ inl is ↦ ap Some (sym is) | inr none ↦ absurd none ], λ is. inl (some_same k e.change (sym is)))
+among_former k (Some e) = (λ among. elim among [ inl is ↦ ap Some (sym is) | inr none ↦ absurd none ], λ is. inl (same_Some k e.change (sym is)))
 
 former_numbers-push : (ds : List PutAside) (d : PutAside) (k : ℕ) → IsAmong k (former_numbers (ds ++ d ∷ [])) ↔ (IsAmong k (former_numbers ds) ⊎ IsAmong k (former_number d.former))
 former_numbers-push [] d k = (

@@ -1,16 +1,16 @@
 -- Which writes of a list are news.
-use Rattle.std.proofs.Common.{◌≡◌, ℕ, ◌+◌, ◌<◌, ◌≤◌, zero, suc, List, [], ◌∷◌, ◌++◌, length, take, get_or, Bool, true, false, cond, Option, Some, None, refl, sym, ap, ◌∙◌, arith, append_assoc, append-nil}
-use Rattle.std.proofs.lemmas.List.{take_more}
+use Rattle.std.proofs.Common.{◌≡◌, ℕ, ◌+◌, ◌≤◌, suc, List, [], ◌∷◌, ◌++◌, length, Bool, true, false, cond, Option, Some, None, refl, sym, ap, ◌∙◌, arith, append_assoc, append-nil}
 use Rattle.std.proofs.lemmas.Slice.Eq.{bytes_eq-Decides}
+use Rattle.std.proofs.Math.Nat.{add_assoc}
 use Rattle.std.specs.Prelude.{bytes_eq, if◌then◌else◌}
 use Rattle.std.specs.declared.cmp.Ordering.{Ordering}
 use Rattle.std.specs.declared.cmp.Ordering.TheVariants.{Less, Equal, Greater}
 use Rattle.std.specs.Ordering.{is_lt, is_gt}
 use Rattle.xds_resource.specs.Writes.{StampedWrite, write_cmp}
 use Rattle.xds_resource.specs.Best.{greater, if_named, best}
-use Rattle.xds_resource.proofs.BestWrites.{best_of_both}
+use Rattle.xds_resource.proofs.BestWrites.{best_of_both, greater-None}
 use Rattle.xds_resource.proofs.WriteTies.{write_cmp-IsAntisymmetric}
-use Rattle.xds_catalogue.specs.Changes.{surpasses, is_news, changes_after, changes_of}
+use Rattle.xds_catalogue.specs.Changes.{surpasses, is_news, changes_after}
 
 -- what counts as news depends on what was best before alone
 pub changes_after-same : (a b ws : List StampedWrite) → ((q : List ℕ) → best a q ≡ best b q) → changes_after a ws ≡ changes_after b ws
@@ -18,9 +18,6 @@ changes_after-same a b [] same = refl
 changes_after-same a b (w ∷ ws) same = λ i.
     (if surpasses w (same w.name i) then 1 else 0)
     + changes_after-same (a ++ w ∷ []) (b ++ w ∷ []) ws (λ q. best_of_both a (w ∷ []) q ∙ ap (λ o. greater o (best (w ∷ []) q)) (same q) ∙ sym (best_of_both b (w ∷ []) q)) i
-
-add_assoc : (a b c : ℕ) → a + (b + c) ≡ (a + b) + c
-add_assoc a b c = omega arith
 
 zero_more : (n : ℕ) → n ≡ 0 + n
 zero_more n = omega arith
@@ -31,7 +28,7 @@ changes_after-append before [] w = ap (λ b. changes_after b w) (sym (append-nil
 changes_after-append before (x ∷ v) w =
     let n = (if is_news before x then 1 else 0) in
     ap (λ k. n + k) (changes_after-append (before ++ x ∷ []) v w ∙ ap (λ b. changes_after (before ++ x ∷ []) v + changes_after b w) (append_assoc before (x ∷ []) v))
-    ∙ add_assoc n _ _
+    ∙ sym (add_assoc n _ _)
 
 at_most_one : (b : Bool) (k n : ℕ) → k ≤ n → (if b then 1 else 0) + k ≤ suc n
 at_most_one true k n h = omega arith
@@ -41,26 +38,6 @@ at_most_one false k n h = omega arith
 pub changes_after-le : (before ws : List StampedWrite) → changes_after before ws ≤ length ws
 changes_after-le before [] = omega arith
 changes_after-le before (w ∷ ws) = at_most_one (is_news before w) _ _ (changes_after-le (before ++ w ∷ []) ws)
-
-both_counted : (b : Bool) (k n : ℕ) → (if b then 1 else 0) + k ≡ suc n → k ≤ n → (b ≡ true) × (k ≡ n)
-both_counted true k n e h = (refl, omega arith)
-both_counted false k n e h = absurd (omega arith)
-
--- where each write was news, the one at a place was news after those before it
-news_at_after : (before ws : List StampedWrite) (i : ℕ) (w : StampedWrite) → changes_after before ws ≡ length ws → i < length ws → w ≡ get_or ws i w → is_news (before ++ take i ws) w ≡ true
-news_at_after before [] i w all within is = absurd (omega arith)
-news_at_after before (x ∷ ws) zero w all within is =
-    (λ i. is_news (append-nil before i) (is i)) ∙ (both_counted (is_news before x) _ _ all (changes_after-le (before ++ x ∷ []) ws)).0
-news_at_after before (x ∷ ws) (suc i) w all within is =
-    ap (λ b. is_news b w) (sym (append_assoc before (x ∷ []) (take i ws)))
-    ∙ news_at_after (before ++ x ∷ []) ws i w (both_counted (is_news before x) _ _ all (changes_after-le (before ++ x ∷ []) ws)).1 (omega arith) is
-
-pub news_at : (ws : List StampedWrite) (i : ℕ) (w : StampedWrite) → changes_of ws ≡ length ws → i < length ws → w ≡ get_or ws i w → is_news (take i ws) w ≡ true
-news_at ws i w all within is = news_at_after [] ws i w all within is
-
-greater-None : (a : Option StampedWrite) → greater a None ≡ a
-greater-None None = refl
-greater-None (Some v) = refl
 
 -- one write more
 pub best-push : (ws : List StampedWrite) (w : StampedWrite) (q : List ℕ) → best (ws ++ w ∷ []) q ≡ greater (best ws q) (if_named q w)
@@ -101,14 +78,3 @@ old_push ws w q false other old = best-push_other ws w q other
 -- what is no news changes nothing
 pub best-push_old : (ws : List StampedWrite) (w : StampedWrite) (q : List ℕ) → is_news ws w ≡ false → best (ws ++ w ∷ []) q ≡ best ws q
 best-push_old ws w q old = old_push ws w q (bytes_eq w.name q) refl old
-
--- one step of a scan for a name
-pub best_more_named : (ws : List StampedWrite) (i : ℕ) (w : StampedWrite) (q : List ℕ) → changes_of ws ≡ length ws → i < length ws → w ≡ get_or ws i w → bytes_eq w.name q ≡ true
-    → Some w ≡ best (take (i + 1) ws) q
-best_more_named ws i w q all within is named =
-    sym (ap (λ l. best l q) (take_more ws i w within ∙ ap (λ x. take i ws ++ x ∷ []) (sym is)) ∙ best-push_named (take i ws) w q named (news_at ws i w all within is))
-
-pub best_more_other : (ws : List StampedWrite) (i : ℕ) (w : StampedWrite) (q : List ℕ) → i < length ws → w ≡ get_or ws i w → bytes_eq w.name q ≡ false
-    → best (take i ws) q ≡ best (take (i + 1) ws) q
-best_more_other ws i w q within is other =
-    sym (ap (λ l. best l q) (take_more ws i w within ∙ ap (λ x. take i ws ++ x ∷ []) (sym is)) ∙ best-push_other (take i ws) w q other)

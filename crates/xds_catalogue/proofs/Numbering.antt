@@ -7,6 +7,8 @@ use Rattle.std.proofs.lemmas.Bool.{true≢false}
 use Rattle.std.proofs.lemmas.Cmp.{nat_list_cmp_total}
 use Rattle.std.proofs.lemmas.Map.Text.{is_eq-slice_cmp}
 use Rattle.std.proofs.lemmas.Slice.Eq.{bytes_eq-Decides}
+use Rattle.std.proofs.lemmas.Option.{same_Some}
+use Rattle.std.proofs.Math.Nat.{add_assoc}
 use Rattle.xds_resource.specs.Writes.{StampedWrite, text_cmp}
 use Rattle.xds_resource.proofs.WriteTies.{text_cmp-IsAntisymmetric}
 use Rattle.xds_catalogue.specs.Holdings.{Holdings, IsCatalogue, IsNumbered, nothing_held}
@@ -16,7 +18,6 @@ use Rattle.xds_catalogue.specs.Laws.{EntriesAreNumbered, NoChangeKeepsNumbers, N
 use Rattle.xds_catalogue.proofs.Joining.{joined_again}
 use Rattle.xds_catalogue.proofs.Lookups.{get-inserted, from_own_entries}
 use Rattle.xds_catalogue.proofs.OneWrite.{changed, joined-news, joined-old, joined-none}
-use Rattle.xds_catalogue.proofs.Leftovers.{some_same}
 
 pub some_from : {X : Type 0} (o : Option X) (x : X) (P : X → Type 0) → o ≡ Some x → IfSome o P → P x
 some_from o x P is h = subst (λ r. IfSome r P) is h
@@ -45,7 +46,7 @@ each_changed h w numbered q = elim (get-inserted nat_list_cmp_total text_cmp-IsA
 
 counted_changed : (h : Holdings) (w : StampedWrite) → IsNumbered h → (q : List ℕ) (k : ℕ) → finmap.get (changed h w).latest q ≡ Some k → (1 ≤ k) × (k ≤ h.changes + 1)
 counted_changed h w numbered q k is = elim (get-inserted nat_list_cmp_total text_cmp-IsAntisymmetric h.latest w.name (h.changes + 1) q) [
-  | inl (here, has) ↦ let same : h.changes + 1 ≡ k = some_same _ _ (sym has ∙ is) in (omega arith, omega arith)
+  | inl (here, has) ↦ let same : h.changes + 1 ≡ k = same_Some _ _ (sym has ∙ is) in (omega arith, omega arith)
   | inr (other, has) ↦
       let old = some_from _ k (λ k. (1 ≤ k) × (k ≤ h.changes)) (sym has ∙ is) (numbered.counted q) in
       let to = old.1 in
@@ -55,7 +56,7 @@ counted_changed h w numbered q k is = elim (get-inserted nat_list_cmp_total text
 -- an entry has the new number, or it keeps its own, which is no greater than the changes before
 new_or_old : (h : Holdings) (w : StampedWrite) → IsNumbered h → (q : List ℕ) (k : ℕ) → finmap.get (changed h w).latest q ≡ Some k → ((w.name ≡ q) × (k ≡ h.changes + 1)) ⊎ ((k ≤ h.changes) × (finmap.get h.latest q ≡ Some k))
 new_or_old h w numbered q k is = elim (get-inserted nat_list_cmp_total text_cmp-IsAntisymmetric h.latest w.name (h.changes + 1) q) [
-  | inl (here, has) ↦ inl (here, some_same _ _ (sym is ∙ has))
+  | inl (here, has) ↦ inl (here, same_Some _ _ (sym is ∙ has))
   | inr (other, has) ↦ inr ((some_from _ k (λ k. (1 ≤ k) × (k ≤ h.changes)) (sym has ∙ is) (numbered.counted q)).1, sym has ∙ is)
 ]
 
@@ -148,9 +149,6 @@ find_right : (xs ys : List (List ℕ × ℕ)) (q : List ℕ) → finmap.find tex
 find_right [] ys q e = refl
 find_right (x ∷ xs) ys q e = right_at x.1 (finmap.find text_cmp q xs) (finmap.find text_cmp q (xs ++ ys)) (finmap.find text_cmp q ys) (is_eq (text_cmp q x.0)) (λ h. find_right xs ys q h) e
 
-sum_assoc : (a b c : ℕ) → (a + b) + c ≡ a + (b + c)
-sum_assoc a b c = omega arith
-
 -- a later write was the last to change the entry
 later : (before : List StampedWrite) (n : ℕ) (x : StampedWrite) (ws : List StampedWrite) (name : List ℕ) (k : ℕ) → IsLastChange (before ++ x ∷ []) ws name k
     → IsLastChange before (x ∷ ws) name ((if is_news before x then 1 else 0) + k)
@@ -197,7 +195,7 @@ told_more : (before : List StampedWrite) (n : ℕ) (x : StampedWrite) (ws : List
     → Told (before ++ x ∷ []) (n + (if is_news before x then 1 else 0)) ws name → Told before n (x ∷ ws) name
 told_more before n x ws name b t news tie (inr (k, is, found)) =
     let one = (if is_news before x then 1 else 0) in
-    inr (one + k, later before n x ws name k is, find_left _ _ name _ found ∙ ap Some (sum_assoc n one k))
+    inr (one + k, later before n x ws name k is, find_left _ _ name _ found ∙ ap Some (add_assoc n one k))
 told_more before n x ws name true true news tie (inl (none, missing)) =
     let named : x.name ≡ name = sym ((bytes_eq-Decides name x.name).0 tie) in
     inr (1, this_one before x ws name named news none, find_right _ _ name missing ∙ ap (λ b. finmap.find text_cmp name (if b then (x.name, n + 1) ∷ [] else [])) news ∙ ap (λ b. cond b (Some (n + 1)) None) (is_eq-slice_cmp name x.name ∙ tie))

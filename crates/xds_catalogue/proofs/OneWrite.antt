@@ -3,6 +3,7 @@ use Rattle.std.proofs.Common.{◌≡◌, ℕ, ◌+◌, List, [], ◌∷◌, ◌+
 use Rattle.std.specs.Prelude.{bytes_eq, IfSome, if◌then◌else◌}
 use Rattle.std.specs.FinMap as finmap
 use Rattle.std.proofs.lemmas.Cmp.{nat_list_cmp_total}
+use Rattle.std.proofs.Math.Nat.{add_assoc}
 use Rattle.xds_resource.specs.Writes.{StampedWrite, text_cmp}
 use Rattle.xds_resource.specs.Best.{greater, best}
 use Rattle.xds_resource.proofs.BestWrites.{best_of_both}
@@ -89,9 +90,6 @@ change_list-same a b n (w ∷ ws) same = λ i.
     change_list_from : Option StampedWrite → List (List ℕ × ℕ) → List (List ℕ × ℕ)
     change_list_from o rest = rest ++ (if surpasses w o then (w.name, n + 1) ∷ [] else [])
 
-add_two : (a b c : ℕ) → (a + b) + c ≡ a + (b + c)
-add_two a b c = omega arith
-
 -- one list after another
 pub change_list-append : (before : List StampedWrite) (n : ℕ) (v w : List StampedWrite) → change_list before n (v ++ w) ≡ change_list (before ++ v) (n + changes_after before v) w ++ change_list before n v
 change_list-append before n [] w = (λ i. change_list (sym (append-nil before) i) (sym (add_none n) i) w) ∙ sym (append-nil _)
@@ -100,4 +98,4 @@ change_list-append before n (x ∷ v) w =
     let here = (if is_news before x then (x.name, n + 1) ∷ [] else []) in
     ap (λ l. l ++ here) (change_list-append (before ++ x ∷ []) (n + one) v w)
     ∙ append_assoc (change_list ((before ++ x ∷ []) ++ v) ((n + one) + changes_after (before ++ x ∷ []) v) w) (change_list (before ++ x ∷ []) (n + one) v) here
-    ∙ (λ i. change_list (append_assoc before (x ∷ []) v i) (add_two n one (changes_after (before ++ x ∷ []) v) i) w ++ (change_list (before ++ x ∷ []) (n + one) v ++ here))
+    ∙ (λ i. change_list (append_assoc before (x ∷ []) v i) (add_assoc n one (changes_after (before ++ x ∷ []) v) i) w ++ (change_list (before ++ x ∷ []) (n + one) v ++ here))

@@ -7,6 +7,7 @@ use Rattle.std.specs.Cmp.{nat_cmp_total}
 use Rattle.std.specs.FinMap as finmap
 use Rattle.std.specs.FinMap.{nat_cmp-IsAntisymmetric}
 use Rattle.std.proofs.lemmas.Cmp.{nat_list_cmp_total}
+use Rattle.std.proofs.lemmas.Option.{same_Some}
 use Rattle.xds_resource.specs.Stamps.{max_counter}
 use Rattle.xds_resource.specs.Writes.{StampedWrite, text_cmp}
 use Rattle.xds_resource.proofs.WriteTies.{text_cmp-IsAntisymmetric}
@@ -46,9 +47,6 @@ fold_push n (x ∷ ws) w = fold_push (max n x.counter) ws w
 greatest_counter-news : (m : Entries) (w : StampedWrite) → IsCatalogue m → surpasses w (finmap.get m w.name) ≡ true → greatest_counter (finmap.insert m w.name w) ≡ max (greatest_counter m) w.counter
 greatest_counter-news m w named above =
     ap greatest_counter (sym (entries-news m w named (is_news-held m w named ∙ above))) ∙ greatest_counter-held (finmap.values m ++ w ∷ []) ∙ fold_push 0 (finmap.values m) w
-
-some_same : {X : Type 0} (x y : X) → Some x ≡ Some y → x ≡ y
-some_same x y e = cc
 
 -- a write that is news leaves the number that it replaces
 module _ (leftover after : List ℕ) (t : TwoMaps) (w : StampedWrite) (sound : IsSoundBut leftover t) (room : t.changes < max_counter) (stamped : w.counter ≤ max_counter)
@@ -126,7 +124,7 @@ module _ (leftover after : List ℕ) (t : TwoMaps) (w : StampedWrite) (sound : I
   not_latest : (k : ℕ) (q : List ℕ) → IsAmong k leftover ⊎ (finmap.get t.named.latest w.name ≡ Some k) → finmap.get (with_write t w).named.latest q ≢ Some k
   not_latest k q among is = elim (get-inserted nat_list_cmp_total text_cmp-IsAntisymmetric t.named.latest w.name (t.changes + 1) q) [
     | inl (here, has) ↦
-        let next : t.changes + 1 ≡ k = some_same _ _ (sym has ∙ is) in
+        let next : t.changes + 1 ≡ k = same_Some _ _ (sym has ∙ is) in
         elim among [
           | inl old ↦ let within = (sound.passed k old).0 in absurd (omega arith)
           | inr old ↦ let within = (some_from _ k (Counted t w.name) old (sound.counted w.name)).1 in absurd (omega arith)
@@ -136,7 +134,7 @@ module _ (leftover after : List ℕ) (t : TwoMaps) (w : StampedWrite) (sound : I
       | inr old ↦
           let first = (some_from _ k (Counted t w.name) old (sound.counted w.name)).2 in
           let second = (some_from _ k (Counted t q) (sym keeps ∙ is) (sound.counted q)).2 in
-          other (some_same _ _ (sym first ∙ second))
+          other (same_Some _ _ (sym first ∙ second))
     ]
   ]
 

@@ -5,6 +5,7 @@ use Rattle.std.specs.declared.cmp.Ordering.TheVariants.{Less, Equal, Greater}
 use Rattle.std.specs.Ordering.{is_lt, is_gt, ordering_reverse, ordering_index}
 use Rattle.std.specs.Cmp.{IsTotalOrder}
 use Rattle.std.proofs.lemmas.List.{take_more, take-append-drop}
+use Rattle.std.proofs.Math.Bool.{and-true}
 use Rattle.xds_resource.specs.Writes.{StampedWrite, write_cmp}
 use Rattle.xds_resource.specs.WriteOrder.{write_cmp_total}
 use Rattle.xds_resource.specs.Best.{greater, if_named, best}
@@ -38,14 +39,10 @@ module _ {K : Type 0} {R : K → K → Ordering} (o : IsTotalOrder R) where
   above_max w a b Equal is = right_alone (is_gt (R w a)) (is_gt (R w b)) (λ h. above a w (sym (o.congr b a w is) ∙ below b w h))
   above_max w a b Greater is = right_alone (is_gt (R w a)) (is_gt (R w b)) (λ h. above a w (o.trans a b w (o.antisymm a b ∙ ap ordering_reverse is) (below b w h)))
 
-and_true : (b : Bool) → b ≡ (b && true)
-and_true true = refl
-and_true false = refl
-
 -- a write is greater than the greater of two where it is greater than both
 pub surpasses-greater : (w : StampedWrite) (a b : Option StampedWrite) → surpasses w (greater a b) ≡ (surpasses w a && surpasses w b)
 surpasses-greater w None b = refl
-surpasses-greater w (Some v) None = and_true _
+surpasses-greater w (Some v) None = sym (and-true _)
 surpasses-greater w (Some v) (Some u) = above_max write_cmp_total w v u (write_cmp u v) refl
 
 surpasses_named : (w v : StampedWrite) (b c : Bool) → bytes_eq v.name w.name ≡ b → is_gt (write_cmp w v) ≡ c → surpasses w (if_named w.name v) ≡ (if b then c else true)

@@ -1,5 +1,5 @@
 -- Loops over fields and over items: what is left decides.
-use Rattle.std.proofs.Common.{◌≡◌, ◌<◌, ◌+◌, ◌∷◌, ◌∙◌, ℕ, List, Bool, true, false, length, get_or, drop, map, inl, inr, refl, sym, ap, subst, Some, Option, Result, Ok, Err, IfOk}
+use Rattle.std.proofs.Common.{◌≡◌, ◌<◌, ◌∙◌, ℕ, List, Bool, true, false, length, get_or, drop, map, inl, inr, refl, sym, ap, subst, Some, Option, Result, Ok, Err, IfOk}
 use Rattle.std.specs.Prelude.{is_some}
 use Rattle.std.specs.Option.{option_map}
 use Rattle.std.proofs.lemmas.List.{drop_more}
@@ -7,12 +7,10 @@ use Rattle.serde_json.specs.Data.{Data}
 use Rattle.serde_json.specs.Find.{as_object}
 use Rattle.serde_json.specs.View.{items_view, view}
 use Rattle.serde_json.specs.declared.value.Value.{Value}
+use Rattle.xds_resource.proofs.BoolsAndLists.{drop_here}
 use Rattle.xds_causes.specs.declared.fields.Field.{Field}
 use Rattle.xds_causes.specs.Fields.{Fits, IsFirstWrong, Tells, Wanted, wanted}
 use Rattle.xds_causes.specs.Told.{has_others}
-
-here : {A : Type 0} (xs : List A) (i : ℕ) (x : A) → i < length xs → x ≡ get_or xs i x → drop i xs ≡ x ∷ drop (i + 1) xs
-here xs i x within is = drop_more xs i x within ∙ ap (λ y. y ∷ drop (i + 1) xs) (sym is)
 
 -- ---- fields
 
@@ -43,6 +41,6 @@ looked_at fields ws d (Err e) is first = tt
 module _ (values : List Value) (i : ℕ) (v : Value) (object : Bool) (within : i < length values) (is : v ≡ get_or values i v) (left : has_others (items_view (drop i values)) ≡ has_others (items_view values)) (tells : object ≡ is_some (as_object (view v))) where
   pub others_here : object ≡ false → true ≡ has_others (items_view values)
   others_here so =
-      let next = here values i v within is in
+      let next = drop_here values i v v within is in
       let none : is_some (as_object (view v)) ≡ false = sym tells ∙ so in
       rw none at (ap (λ (xs : List Value). has_others (items_view xs)) (sym next) ∙ left)

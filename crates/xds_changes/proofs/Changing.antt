@@ -1,6 +1,6 @@
 -- What a line changes, by what it says in a script.
 use Rattle.std.proofs.Common.{◌≡◌, ◌≢◌, ℕ, List, length, Bool, true, false, Option, Some, None, Result, Ok, Err, refl, ap, sym, subst}
-use Rattle.std.specs.Prelude.{IfErr, MatchResult, is_err, nat_lt, if◌then◌else◌}
+use Rattle.std.specs.Prelude.{is_err, nat_lt, if◌then◌else◌}
 use Rattle.std.specs.Option.{option_map, option_to_list, ok_or}
 use Rattle.xds_resource.specs.declared.refusal.Refusal.{Refusal}
 use Rattle.xds_resource.specs.declared.refusal.Refusal.TheVariants.{OutOfMemory, BadScript, TooLong}
@@ -47,9 +47,3 @@ short_line line short = within (nat_lt most_line (length line)) (change_within l
 -- one that is read isn't wrong, and brings what was read
 pub good_line : (r : Result (Option Written) Refusal) (change : Option Written) → r ≡ Ok change → (is_err r ≡ false) × (brought r ≡ option_to_list change)
 good_line r change h = subst (λ (x : Result (Option Written) Refusal). (is_err x ≡ false) × (brought x ≡ option_to_list change)) (sym h) (refl, refl)
-
--- a line that the limit refuses is refused so
-pub limit_refused : {T : Type 0} (r : Result T Refusal) (held line : List ℕ) → held ≡ line
-    → MatchResult r (λ x. nat_lt most_line (length held) ≡ false) (λ e. (e ≡ TooLong) × (nat_lt most_line (length held) ≡ true)) → IfErr r (λ e. e ≢ OutOfMemory → change_in line ≡ Err e)
-limit_refused (Ok x) held line is h = tt
-limit_refused (Err e) held line is h = λ other. subst (λ (l : List ℕ). change_in l ≡ Err e) is (long_line held e h.1 h.0)

@@ -7,6 +7,7 @@ use Rattle.std.specs.Io.KnownBytes.{Consumes, IsAtEnd, Keeps, ReadConsumes}
 use Rattle.std.proofs.KnownBytes.{Consumes-nil, Consumes-trans, Consumes-kept}
 use Rattle.std.proofs.lemmas.List.Elements.{All-nil, All-append}
 use Rattle.std.proofs.lemmas.Grind.{flat_map-append}
+use Rattle.std.proofs.lemmas.Bool.{false≢true}
 use Rattle.xds_resource.specs.Refusals.{Gives}
 use Rattle.xds_resource.specs.declared.refusal.Refusal.{Refusal}
 use Rattle.xds_resource.specs.declared.refusal.Refusal.TheVariants.{OutOfMemory, Device}
@@ -117,9 +118,6 @@ pub some_refused : (line more : ℕ) (end : End) (refused : Option Refusal) → 
     → (e : Refusal) × (refused ≡ Some e) × (end ≡ Line (line_after line more) e)
 some_refused line more end None is = absurd cc
 some_refused line more end (Some e) is = (e, refl, cc)
-
-unless_false : {X : Type 0} → false ≡ true → X
-unless_false e = absurd cc
 
 module _ {S : Type 0} (hands : S → S → Written → Type 0) where
   pub handed_more : (s t u : S) (changes new : List Written) → AllHanded hands s t changes → AllHanded hands t u new → AllHanded hands s u (changes ++ new)
@@ -273,5 +271,5 @@ module _ {S : Type 0} (hands : S → S → Written → Type 0) where
         now.read,
         subst (λ v. TakesUpTo hands s v now.came line e) (sym same) (last_refused s t before after held line e now gives),
       )
-  input_ended s t u before mid after held line (Ok (Some c)) (Err end) so_far reads at_end gives (handed, ok) = unless_false ok
-  input_ended s t u before mid after held line (Ok None) (Err end) so_far reads at_end gives (same, ok) = unless_false ok
+  input_ended s t u before mid after held line (Ok (Some c)) (Err end) so_far reads at_end gives (handed, ok) = absurd (false≢true ok)
+  input_ended s t u before mid after held line (Ok None) (Err end) so_far reads at_end gives (same, ok) = absurd (false≢true ok)

@@ -1,6 +1,7 @@
 -- Texts that are cut at their first space.
 use Rattle.std.proofs.Common.{◌≡◌, ◌<◌, ◌+◌, ℕ, suc, List, [], ◌∷◌, ◌++◌, length, take, drop, Bool, true, false, cond, not, Option, Some, None, Bor, refl, ap, sym, ◌∙◌, arith}
-use Rattle.std.specs.Prelude.{◌==◌, ◌||◌, MatchOption}
+use Rattle.std.proofs.lemmas.Bool.{or_parts}
+use Rattle.std.specs.Prelude.{◌==◌, MatchOption}
 use Rattle.std.specs.List.{before_first, after_first, position_or_len, list_any}
 use Rattle.std.specs.Option.{option_map}
 use Rattle.xds_check.specs.Words.{space, cut}
@@ -46,13 +47,9 @@ joined_step : (b : ℕ) (bs rest : List ℕ) (t : Bool) → t ≡ false → cut 
 joined_step b bs rest true e later = cc
 joined_step b bs rest false e later = ap (option_map (λ p. (b ∷ p.0, p.1))) later
 
-first_fails : (a b : Bool) → (a || b) ≡ false → (a ≡ false) × (b ≡ false)
-first_fails true b e = cc
-first_fails false b e = (refl, e)
-
 -- a word without a space, and a space behind it
 pub cut-joined : (word rest : List ℕ) → list_any is_space word ≡ false → cut (word ++ space ∷ rest) ≡ Some (word, rest)
 cut-joined [] rest e = refl
 cut-joined (b ∷ bs) rest e =
-    let parts = first_fails (is_space b) (list_any is_space bs) e in
+    let parts = or_parts (is_space b) (list_any is_space bs) e in
     joined_step b bs rest (is_space b) parts.0 (cut-joined bs rest parts.1)

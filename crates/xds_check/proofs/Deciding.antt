@@ -4,6 +4,7 @@ use Rattle.std.specs.Prelude.{is_some, bytes_eq, if◌then◌else◌, IfSome}
 use Rattle.std.specs.List.{list_any, list_all, filter}
 use Rattle.std.specs.Option.{option_map_or, option_and_then, option_or, unwrap_or}
 use Rattle.std.specs.FinMap as finmap
+use Rattle.std.proofs.lemmas.Bool.{not-false, not-true}
 use Rattle.xds_resource.specs.declared.types.TypeName.{TypeName}
 use Rattle.xds_resource.specs.Writes.{StampedWrite, version_of}
 use Rattle.xds_resource.proofs.MadeMaps.{EachFound, each_found}
@@ -213,28 +214,20 @@ shown_has : (m : Entries) (s : Selection) (q : List ℕ) (o : Option StampedWrit
 shown_has m s q None has shown = never (sym shown ∙ (λ i. is_some (present_as s q (has i))))
 shown_has m s q (Some w) has shown = (w, has)
 
-not_false : (b : Bool) → not b ≡ false → b ≡ true
-not_false true e = refl
-not_false false e = never e
-
-not_true : (b : Bool) → not b ≡ true → b ≡ false
-not_true true e = never (sym e)
-not_true false e = refl
-
 unkept : (m : Entries) (s : Selection) (names : List (List ℕ)) (catalogue : IsCatalogue m) (q : List ℕ) (o : Option StampedWrite) → finmap.get m q ≡ o → keeps_name m s names q ≡ false
     → (is_shown_in m s q ≡ true) × (has_name names q ≡ false)
 unkept m s names catalogue q None has lacks = never (sym (ap (λ o. option_map_or (λ w. not (is_lacked s names w)) o true) has) ∙ lacks)
 unkept m s names catalogue q (Some w) has lacks =
     let named : w.name ≡ q = subst (λ (o : Option StampedWrite). IfSome o (λ w. w.name ≡ q)) has (catalogue q) in
-    let both : is_lacked s names w ≡ true = not_false (is_lacked s names w) (sym (ap (λ o. option_map_or (λ w. not (is_lacked s names w)) o true) has) ∙ lacks) in (
+    let both : is_lacked s names w ≡ true = not-false (is_lacked s names w) (sym (ap (λ o. option_map_or (λ w. not (is_lacked s names w)) o true) has) ∙ lacks) in (
       shown_same m s q w has named ∙ and_first (is_shown s w) (not (has_name names w.name)) both,
-      sym (ap (has_name names) named) ∙ not_true (has_name names w.name) (and_second (is_shown s w) (not (has_name names w.name)) both),
+      sym (ap (has_name names) named) ∙ not-true (has_name names w.name) (and_second (is_shown s w) (not (has_name names w.name)) both),
     )
 
 -- a response that lacks one lacks a name that is shown
 pub lacks_tells : (m : Entries) (s : Selection) (names : List (List ℕ)) → IsCatalogue m → lacks_one names (content m s) ≡ true → (q : List ℕ) × (is_shown_in m s q ≡ true) × (has_name names q ≡ false)
 lacks_tells m s names catalogue lacks =
-    let one = one_fails (keeps_name m s names) (finmap.entries m) (not_true _ (sym (content_lacks m s names) ∙ lacks)) in
+    let one = one_fails (keeps_name m s names) (finmap.entries m) (not-true _ (sym (content_lacks m s names) ∙ lacks)) in
     let both = unkept m s names catalogue one.0 (finmap.get m one.0) refl one.1 in
     (one.0, both.0, both.1)
 
@@ -249,7 +242,7 @@ lacks_none m s names catalogue none q shown absent =
     let has = shown_has m s q (finmap.get m q) refl shown in
     let w = has.0 in
     let named : w.name ≡ q = subst (λ (o : Option StampedWrite). IfSome o (λ w. w.name ≡ q)) has.1 (catalogue q) in
-    let kept = named_passes (keeps_name m s names) m q w (not_false _ (sym (content_lacks m s names) ∙ none)) has.1 in
+    let kept = named_passes (keeps_name m s names) m q w (not-false _ (sym (content_lacks m s names) ∙ none)) has.1 in
     lacked_now (is_shown s w) (has_name names w.name) (sym (ap (λ o. option_map_or (λ w. not (is_lacked s names w)) o true) has.1) ∙ kept)
     (sym (shown_same m s q w has.1 named) ∙ shown) (ap (has_name names) named ∙ absent)
 
@@ -343,7 +336,7 @@ module _ (s : ℕ) (t : TypeName) (e : List Line) (held : Entries) (k : StreamTa
   pub one_missed : none_missed held k ≡ false → LeavesPending e s t
   one_missed none =
       let one = one_fails (λ q. not (is_missed held k q)) (finmap.entries k.waiting) none in
-      let missed = not_false (is_missed held k one.0) one.1 in
+      let missed = not-false (is_missed held k one.0) one.1 in
       record { name = one.0; pending = sym (spoken.waiting one.0) ∙ and_first (is_marked k.waiting one.0) _ missed; counts = sym (counts_is one.0) ∙ and_second (is_marked k.waiting one.0) _ missed }
 
   both_now : (a b : Bool) → a ≡ true → b ≡ true → not (a && b) ≡ true → ⊥

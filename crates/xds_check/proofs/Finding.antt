@@ -1,5 +1,5 @@
 -- What a line was read from, and why nothing else could be.
-use Rattle.std.proofs.Common.{◌≡◌, ◌≢◌, ℕ, zero, suc, arith, List, [], ◌∷◌, Some, Result, Ok, Err, ap, sym, ◌∙◌, subst}
+use Rattle.std.proofs.Common.{◌≡◌, ◌≢◌, ℕ, zero, suc, arith, List, [], ◌∷◌, Result, Ok, Err, ap, sym, ◌∙◌, subst}
 use Rattle.std.specs.Prelude.{IfOk, IfErr, IsErrAnd, Contains}
 use Rattle.serde_json.specs.Data.{Data}
 use Rattle.xds_resource.specs.declared.refusal.Refusal.{Refusal}
@@ -7,10 +7,6 @@ use Rattle.xds_resource.specs.declared.refusal.Refusal.TheVariants.{NotJson, Bad
 use Rattle.xds_json.specs.Spelling.{IsJson}
 use Rattle.xds_check.specs.Texts.{IsJsonOf}
 use Rattle.xds_check.specs.Words.{Finds}
-
--- a text reads as one value
-pub one_value : (json : List ℕ) (d e : Data) → IsJson json d → IsJson json e → d ≡ e
-one_value json d e p q = let same : Some d ≡ Some e = sym p.1 ∙ q.1 in cc
 
 -- a message that was refused, but for memory, is spelled by nothing
 no_message : {Y : Type 0} (Spells : Data → Y → Type 0) (json : List ℕ) (f : Refusal) → Contains (NotJson ∷ BadMessage ∷ OutOfMemory ∷ []) f → f ≢ OutOfMemory

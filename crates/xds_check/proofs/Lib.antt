@@ -2,7 +2,7 @@ mod Cutting
 mod Finding
 mod RulesLining
 mod Orderly
-mod Traces
+pub mod Traces
 mod OneMeaning
 mod OneTrace
 mod OneLine
@@ -11,7 +11,7 @@ mod AnswerTexts
 pub mod OneVerdict
 mod Marking
 mod Waiting
-mod Talking
+pub mod Talking
 mod Lining
 mod Deciding
 mod Passing

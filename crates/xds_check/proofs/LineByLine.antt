@@ -1,14 +1,13 @@
 -- Lines that are taken one after another: what is kept is what they say, and the first broken one is told.
-use Rattle.std.proofs.Common.{◌≡◌, ◌≢◌, ◌<◌, ◌≤◌, ◌+◌, ℕ, zero, suc, List, [], ◌∷◌, ◌++◌, length, reverse, take, drop, get_or, Bool, true, false, cond, ◌&&◌, Option, Some, None, refl, sym, ap, subst, ◌∙◌, arith, add-one, append_assoc, length-append}
-use Rattle.std.proofs.lemmas.Bool.{eqb-true, eq-eqb}
+use Rattle.std.proofs.Common.{◌≡◌, ◌≢◌, ◌<◌, ◌≤◌, ◌+◌, ℕ, zero, suc, List, [], ◌∷◌, ◌++◌, length, reverse, take, drop, get_or, Bool, true, false, cond, Option, Some, None, refl, sym, ap, subst, ◌∙◌, arith, add-one, append_assoc, length-append}
+use Rattle.std.proofs.lemmas.Bool.{eqb-true, eq-eqb, and_parts}
 use Rattle.std.specs.Prelude.{◌==◌, not, is_none, is_some}
 use Rattle.std.specs.Option.{option_map_or, option_or, unwrap_or}
 use Rattle.std.proofs.Math.Seq.{take-suc}
-use Rattle.std.proofs.lemmas.List.{length-reverse, take_all}
+use Rattle.std.proofs.lemmas.List.{length-reverse, take_all, reverse-append}
 use Rattle.xds_resource.specs.declared.types.TypeName.{TypeName}
-use Rattle.xds_resource.specs.declared.types.TypeName.TheVariants.{Cluster, Endpoint, Listener, Route, Secret}
-use Rattle.xds_resource.specs.PerType.{PerType, at, each, per_type}
-use Rattle.xds_resource.proofs.TypesApart.{at-each}
+use Rattle.xds_resource.specs.PerType.{PerType, at, each}
+use Rattle.xds_resource.proofs.TypesApart.{at-each, at-per_type}
 use Rattle.xds_check.specs.declared.checker.Checker.{Checker}
 use Rattle.xds_check.specs.declared.checking.Broken.{Broken}
 use Rattle.xds_check.specs.declared.line.Line.{Line}
@@ -24,7 +23,7 @@ use Rattle.xds_check.specs.Verdicts.{IsVerdict}
 use Rattle.xds_check.proofs.Deciding.{TellsLeast}
 use Rattle.xds_check.proofs.StreamChanges.{elsewhere}
 use Rattle.xds_check.proofs.Orderly.{nothing_yet, order_after, follows_same}
-use Rattle.xds_check.proofs.Passing.{IsCounted, any_counted, broken_here, kept_here, judge_more, judge_first, few_changes, reverse-push}
+use Rattle.xds_check.proofs.Passing.{IsCounted, any_counted, broken_here, kept_here, judge_more, judge_first, few_changes}
 
 -- ---- the first broken line
 
@@ -50,7 +49,7 @@ length_taken (x ∷ xs) (suc i) below = ap suc (length_taken xs i (omega (arith,
 
 so_far : (trace : List Line) (i : ℕ) (l : Line) → i < length trace → l ≡ get_or trace i l → reverse (take (i + 1) trace) ≡ l ∷ reverse (take i trace)
 so_far trace i l below is =
-    ap (λ n. reverse (take n trace)) (add-one i) ∙ ap reverse (take-suc trace i l below) ∙ ap (λ x. reverse (take i trace ++ x ∷ [])) (sym is) ∙ reverse-push (take i trace) l
+    ap (λ n. reverse (take n trace)) (add-one i) ∙ ap reverse (take-suc trace i l below) ∙ ap (λ x. reverse (take i trace ++ x ∷ [])) (sym is) ∙ reverse-append (take i trace) (l ∷ [])
 
 -- so many lines of a list were taken: they keep the rules, and what is kept is what they say
 pub record AreTakenOf (trace : List Line) (i : ℕ) (judges : PerType JudgeKept) : Type 0 where
@@ -93,17 +92,13 @@ none_left : (o : Option Bool) → is_none o ≡ true → option_map_or not o fal
 none_left None is = refl
 none_left (Some b) is = absurd cc
 
-first_holds : (a b : Bool) → (a && b) ≡ true → a ≡ true
-first_holds true b e = refl
-first_holds false b e = absurd cc
-
 -- the stream of a line that may come is left
 counted : (e : List Line) (l : Line) → may_follow e l ≡ true → IsCounted (is_left e) l
 counted e (lines.Write w) follows = tt
 counted e (lines.Open s) follows = tt
 counted e (lines.Close s) follows = tt
 counted e (lines.Request s q) follows = tt
-counted e (lines.Response s a) follows = opened_left (open_on s e) (first_holds (is_open s e) _ follows)
+counted e (lines.Response s a) follows = opened_left (open_on s e) (and_parts (is_open s e) _ follows).0
 counted e (lines.Idle s u) follows = opened_left (open_on s e) follows
 
 left_open : (s r : ℕ) (e : List Line) (here : Bool) → (r == s) ≡ here → is_none (open_on r e) ≡ true → option_map_or not (option_or (cond here (Some true) None) (open_on s e)) false ≡ false → is_left e s
@@ -125,13 +120,6 @@ left_before e (lines.Close r) follows s left = (left_closed s r e (r == s) refl 
 left_before e (lines.Request r q) follows s left = left
 left_before e (lines.Response r a) follows s left = left
 left_before e (lines.Idle r u) follows s left = left
-
-at-per_type : {X : Type 0} (f : TypeName → X) (t : TypeName) → at (per_type f) t ≡ f t
-at-per_type f Cluster = refl
-at-per_type f Endpoint = refl
-at-per_type f Listener = refl
-at-per_type f Route = refl
-at-per_type f Secret = refl
 
 fewer : (e : List Line) (l : Line) (t : TypeName) (j : JudgeKept) → may_follow e l ≡ true → IsJudgeOf (is_left e) t (l ∷ e) j → IsJudgeOf (is_left (l ∷ e)) t (l ∷ e) j
 fewer e l t j follows of = record { held = of.held; talks = λ s left. of.talks s (left_before e l follows s left); live = of.live }
@@ -199,7 +187,7 @@ module _ (trace : List Line) (l : Line) (old : PerType JudgeKept) (follows : may
       let e = reverse trace in
       let kept = kept_here (is_left e) e old l judged.0 judged.1 (counted e l follows) (λ t. (told t).unbroken) in
       let are = let_go e l new follows (λ t. judge_more (is_left e) t e l (at old t) (at new t) (judged.1 t) (told t)) in
-      (subst AllKeep (sym (reverse-push trace l)) kept, subst (λ (x : List Line). AreJudgesOf (is_left x) x (let_go_after l new)) (sym (reverse-push trace l)) are)
+      (subst AllKeep (sym (reverse-append trace (l ∷ []))) kept, subst (λ (x : List Line). AreJudgesOf (is_left x) x (let_go_after l new)) (sym (reverse-append trace (l ∷ []))) are)
 
 -- the same, where none is broken so far
 pub judged_still : (trace : List Line) (l : Line) (old new after : PerType JudgeKept) (o : Option Broken) → may_follow (reverse trace) l ≡ true → is_some o ≡ false → IsJudged trace old o → TellsOfAll l old new None
@@ -219,7 +207,7 @@ taken_more lines l old new h room count order judged = record {
   count = omega (arith, h.count, count, length-append lines (l ∷ []));
   few = omega (arith, room, count);
   order =
-      subst (λ (e : List Line). IsOrderOf e new.order) (sym (reverse-push lines l)) (subst (λ (k : OrderKept). IsOrderOf (l ∷ reverse lines) k) (sym order) (order_after (reverse lines) old.order l h.order));
+      subst (λ (e : List Line). IsOrderOf e new.order) (sym (reverse-append lines (l ∷ []))) (subst (λ (k : OrderKept). IsOrderOf (l ∷ reverse lines) k) (sym order) (order_after (reverse lines) old.order l h.order));
   judged = judged;
 }
 

@@ -1,5 +1,6 @@
 -- What is kept of every stream is what the lines say, line by line.
 use Rattle.std.proofs.Common.{◌≡◌, inl, inr, ℕ, List, ◌∷◌, ◌++◌, Bool, true, false, cond, ◌&&◌, ◌||◌, Option, Some, None, refl, sym, ap, subst, ◌∙◌}
+use Rattle.std.proofs.lemmas.Bool.{true≢false}
 use Rattle.std.specs.Prelude.{bytes_eq, ◌==◌, if◌then◌else◌, ⊤}
 use Rattle.std.specs.Option.{option_map, unwrap_or, option_or}
 use Rattle.std.specs.FinMap as finmap
@@ -10,8 +11,8 @@ use Rattle.xds_resource.specs.Writes.{StampedWrite, text_cmp, version_of}
 use Rattle.xds_resource.proofs.MadeMaps.{get-put_each}
 use Rattle.xds_resource.proofs.NameMaps.{same_names, get-tabulated, in_neither}
 use Rattle.xds_resource.proofs.TypesApart.{same_type}
+use Rattle.xds_resource.proofs.BoolsAndLists.{option_or-None}
 use Rattle.xds_interest.specs.Interests.{Selection, has_name}
-use Rattle.xds_interest.proofs.Choices.{option_or-None}
 use Rattle.xds_catalogue.specs.Holdings.{Entries}
 use Rattle.xds_ledger.specs.declared.entry.Due.{Due}
 use Rattle.xds_ledger.specs.declared.entry.Due.TheVariants.{Stated, Removed}
@@ -92,11 +93,8 @@ offer_same t e held a kind same =
     ∙ offer_case removed stated (stated_due held q)
     ∙ ap (λ (o : Option StampedWrite). if removed then Some Removed else if stated then option_map (λ w. Stated (version_of w)) o else None) (same q ∙ ap (λ k. standing k e q) (sym kind))))
 
-never : {X : Type 0} → true ≡ false → X
-never e = absurd cc
-
 pub kind_told : (a b : TypeName) → is_same_type a b ≡ true → a ≡ b
-kind_told a b same = elim (same_type a b) [ inl is ↦ is.0 | inr other ↦ never (sym same ∙ other.1) ]
+kind_told a b same = elim (same_type a b) [ inl is ↦ is.0 | inr other ↦ absurd (true≢false (sym same ∙ other.1)) ]
 
 -- what the lines say of the stream once a response came
 abbrev SpokenOf : ℕ → TypeName → List Line → Answer → StreamTalk → Option (List ℕ) → Type 0

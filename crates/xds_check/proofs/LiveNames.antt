@@ -1,5 +1,8 @@
 -- The names of live writes as a name comes and goes, and what a whole response has by them.
 use Rattle.std.proofs.Common.{◌≡◌, ℕ, List, [], ◌∷◌, ◌++◌, length, map, Bool, true, false, cond, not, ◌&&◌, ◌||◌, Option, Some, None, refl, sym, ap, subst, ◌∙◌, arith, eqb-true}
+use Rattle.std.proofs.lemmas.List.{nil_from_length}
+use Rattle.std.proofs.Math.Bool.{or-true}
+use Rattle.std.proofs.lemmas.Bool.{and_right, and_from, and_left}
 use Rattle.std.specs.Prelude.{is_some, bytes_eq, ◌==◌, if◌then◌else◌, IfSome}
 use Rattle.std.specs.List.{list_all}
 use Rattle.std.specs.Option.{option_map, option_map_or, option_and_then, unwrap_or}
@@ -10,8 +13,9 @@ use Rattle.xds_resource.specs.Groups.{has_group}
 use Rattle.xds_resource.specs.Writes.{StampedWrite, text_cmp}
 use Rattle.xds_resource.proofs.BestWrites.{greater-comm, best_of_both}
 use Rattle.xds_resource.proofs.NameMaps.{bytes_eq_same, bytes_eq_tells, bytes_eq_swap, get-insert, get-remove, has_text-keys, has_text-items, same_names}
+use Rattle.xds_resource.proofs.BoolsAndLists.{true_together}
 use Rattle.xds_interest.specs.Interests.{Selection, covers, is_open_to, has_name}
-use Rattle.xds_interest.proofs.Choices.{and-false, and_first, and_second}
+use Rattle.xds_interest.proofs.Choices.{and_first, and_second}
 use Rattle.xds_interest.proofs.Texts.{contains-from_texts}
 use Rattle.xds_catalogue.specs.Content.{is_live, if_live, live_at, content}
 use Rattle.xds_catalogue.specs.Holdings.{Entries, Holdings, IsCatalogue, nothing_held}
@@ -20,18 +24,8 @@ use Rattle.xds_catalogue.proofs.Catalogues.{get-catalogue_of, best-values}
 use Rattle.xds_check.specs.Kept.{Marks, is_shown_in, lacks_one}
 use Rattle.xds_check.specs.LiveNames.{LiveNames, ByGroup, AreLive, no_names, in_group, stands, lives_for_everyone, lives_for, with_name, with_name_in, with_name_in_each, with_name_of, are_among, has_starred, has_if_live, has_explicit, has_shown}
 use Rattle.xds_check.proofs.Deciding.{never, live_some, shown_parts, lacks_tells, lacks_none}
-use Rattle.xds_check.proofs.StreamChanges.{nothing_in}
 
 -- ---- lists of names
-
-same_bool : (a b : Bool) → (a ≡ true → b ≡ true) → (b ≡ true → a ≡ true) → a ≡ b
-same_bool true b f g = sym (f refl)
-same_bool false true f g = g refl
-same_bool false false f g = refl
-
-or_true : (b : Bool) → (b || true) ≡ true
-or_true true = refl
-or_true false = refl
 
 passes_case : (f : List ℕ → Bool) (x q : List ℕ) (xs : List (List ℕ)) (b : Bool) → bytes_eq q x ≡ b → list_all f (x ∷ xs) ≡ true → (b || has_name xs q) ≡ true → (has_name xs q ≡ true → f q ≡ true) → f q ≡ true
 passes_case f x q xs true same all is later = ap f (bytes_eq_tells q x same) ∙ and_first (f x) (list_all f xs) all
@@ -44,7 +38,7 @@ each_passes f (x ∷ xs) q all is = passes_case f x q xs (bytes_eq q x) refl all
 
 lacks_case : (f : List ℕ → Bool) (x : List ℕ) (xs : List (List ℕ)) (b : Bool) → f x ≡ b → (b && list_all f xs) ≡ false → (list_all f xs ≡ false → (q : List ℕ) × (has_name xs q ≡ true) × (f q ≡ false))
     → (q : List ℕ) × (has_name (x ∷ xs) q ≡ true) × (f q ≡ false)
-lacks_case f x xs true here none later = let one = later none in (one.0, ap (λ b. bytes_eq one.0 x || b) one.1 ∙ or_true (bytes_eq one.0 x), one.2)
+lacks_case f x xs true here none later = let one = later none in (one.0, ap (λ b. bytes_eq one.0 x || b) one.1 ∙ or-true (bytes_eq one.0 x), one.2)
 lacks_case f x xs false here none later = (x, ap (λ b. b || has_name xs x) (bytes_eq_same x), here)
 
 -- and where not all pass, one of the list doesn't
@@ -58,14 +52,14 @@ all_case f xs ys false is same all = let one = one_lacks f ys is in never (sym (
 
 -- lists of the same names pass the same tests
 pub same_all : (f : List ℕ → Bool) (xs ys : List (List ℕ)) → ((q : List ℕ) → has_name xs q ≡ has_name ys q) → list_all f xs ≡ list_all f ys
-same_all f xs ys same = same_bool _ _ (all_case f xs ys (list_all f ys) refl same) (all_case f ys xs (list_all f xs) refl (λ q. sym (same q)))
+same_all f xs ys same = true_together _ _ (all_case f xs ys (list_all f ys) refl same) (all_case f ys xs (list_all f xs) refl (λ q. sym (same q)))
 
 -- a set's names, as a list that makes it
 pub by_items : (f : List ℕ → Bool) (s : set.FinSet text_cmp) (ns : List (List ℕ)) → set.from_list ns ≡ s → list_all f (set.items s) ≡ list_all f ns
 by_items f s ns is = same_all f (set.items s) ns (λ q. has_text-items s q ∙ ap (λ x. set.contains x q) (sym is) ∙ contains-from_texts ns q)
 
 pub empty_among : (others : Marks) → are_among finmap.empty others ≡ true
-empty_among others = ap (λ (es : List (List ℕ × Bool)). list_all (stands others) (map (λ e. e.0) es)) (nothing_in (finmap.entries finmap.empty) (sym (finmap.len-entries finmap.empty) ∙ finmap.len-empty text_cmp Bool))
+empty_among others = ap (λ (es : List (List ℕ × Bool)). list_all (stands others) (map (λ e. e.0) es)) (nil_from_length (finmap.entries finmap.empty) (sym (finmap.len-entries finmap.empty) ∙ finmap.len-empty text_cmp Bool))
 
 -- ---- a name that is put in or taken out
 
@@ -207,12 +201,6 @@ everyone_some m n w has = ap (λ (o : Option StampedWrite). option_map_or (λ v.
 group_some : (m : Entries) (h n : List ℕ) (w : StampedWrite) → finmap.get m n ≡ Some w → lives_for m h n ≡ (is_live w && has_group w.groups h)
 group_some m h n w has = ap (λ (o : Option StampedWrite). option_map_or (λ v. is_live v && has_group v.groups h) o false) has
 
-none_of : (a b : Bool) → b ≡ false → (a && b) ≡ false
-none_of a b is = ap (λ x. a && x) is ∙ and-false a
-
-both_of : (a b : Bool) → a ≡ true → b ≡ true → (a && b) ≡ true
-both_of a b is so = (λ i. is i && so i)
-
 pub taken_out : (m : Entries) (n : List ℕ) (w : StampedWrite) (x y : LiveNames) → finmap.get m n ≡ Some w → y ≡ with_name_of false n w.groups x → AreLive m x → AreLive (finmap.remove m n) y
 taken_out m n w x y has is live =
     subst (AreLive (finmap.remove m n)) (sym is) (moved m (finmap.remove m n) n w.groups false x
@@ -220,9 +208,9 @@ taken_out m n w x y has is live =
       named = without_named m n live.named;
       elsewhere = without_elsewhere m n;
       everyone_in = λ so. everyone_none (finmap.remove m n) n (without_here m n);
-      everyone_out = λ so. everyone_none (finmap.remove m n) n (without_here m n) ∙ sym (everyone_some m n w has ∙ none_of (is_live w) _ so);
+      everyone_out = λ so. everyone_none (finmap.remove m n) n (without_here m n) ∙ sym (everyone_some m n w has ∙ and_right (is_live w) _ so);
       group_in = λ h so. group_none (finmap.remove m n) h n (without_here m n);
-      group_out = λ h so. group_none (finmap.remove m n) h n (without_here m n) ∙ sym (group_some m h n w has ∙ none_of (is_live w) _ so);
+      group_out = λ h so. group_none (finmap.remove m n) h n (without_here m n) ∙ sym (group_some m h n w has ∙ and_right (is_live w) _ so);
     })
     live)
 
@@ -243,15 +231,12 @@ put_back m n w x y named has lives is live =
     (record {
       named = named;
       elsewhere = λ q apart. sym (without_elsewhere m n q apart);
-      everyone_in = λ so. everyone_some m n w has ∙ both_of (is_live w) _ lives so;
-      everyone_out = λ so. everyone_some m n w has ∙ none_of (is_live w) _ so ∙ sym (everyone_none (finmap.remove m n) n (without_here m n));
-      group_in = λ h so. group_some m h n w has ∙ both_of (is_live w) _ lives so;
-      group_out = λ h so. group_some m h n w has ∙ none_of (is_live w) _ so ∙ sym (group_none (finmap.remove m n) h n (without_here m n));
+      everyone_in = λ so. everyone_some m n w has ∙ and_from (is_live w) _ lives so;
+      everyone_out = λ so. everyone_some m n w has ∙ and_right (is_live w) _ so ∙ sym (everyone_none (finmap.remove m n) n (without_here m n));
+      group_in = λ h so. group_some m h n w has ∙ and_from (is_live w) _ lives so;
+      group_out = λ h so. group_some m h n w has ∙ and_right (is_live w) _ so ∙ sym (group_none (finmap.remove m n) h n (without_here m n));
     })
     live)
-
-not_of : (a b : Bool) → a ≡ false → (a && b) ≡ false
-not_of a b is = ap (λ x. x && b) is
 
 dead_case : (m : Entries) (n q : List ℕ) (w : StampedWrite) (f : StampedWrite → Bool) (e : Bool) → bytes_eq n q ≡ e → finmap.get m n ≡ Some w → f w ≡ false
     → option_map_or f (cond e None (finmap.get m q)) false ≡ option_map_or f (finmap.get m q) false
@@ -265,10 +250,10 @@ left_out m n w x named has dead live = record {
   named = named;
   for_everyone = λ q.
       live.for_everyone q ∙ ap (λ (o : Option StampedWrite). option_map_or (λ v. is_live v && (length v.groups == 0)) o false) (get-remove m n q)
-      ∙ dead_case m n q w (λ v. is_live v && (length v.groups == 0)) (bytes_eq n q) refl has (not_of (is_live w) _ dead);
+      ∙ dead_case m n q w (λ v. is_live v && (length v.groups == 0)) (bytes_eq n q) refl has (and_left (is_live w) _ dead);
   for_groups = λ h q.
       live.for_groups h q ∙ ap (λ (o : Option StampedWrite). option_map_or (λ v. is_live v && has_group v.groups h) o false) (get-remove m n q)
-      ∙ dead_case m n q w (λ v. is_live v && has_group v.groups h) (bytes_eq n q) refl has (not_of (is_live w) _ dead);
+      ∙ dead_case m n q w (λ v. is_live v && has_group v.groups h) (bytes_eq n q) refl has (and_left (is_live w) _ dead);
 }
 
 -- ---- a write that is joined
@@ -331,15 +316,15 @@ module _ (m : Entries) (x : LiveNames) (s : Selection) (stated : Marks) (live : 
   shown_so : (q : List ℕ) (w : StampedWrite) → is_shown_by q w → is_shown_in m s q ≡ true
   shown_so q w by =
       shown_parts s q (finmap.get m q)
-      ∙ ap (λ (o : Option StampedWrite). is_some (option_and_then if_live o) && option_map_or (λ v. covers s q v.groups) o false) by.0 ∙ both_of _ _ (live_some w (is_live w) ∙ by.1) by.2
+      ∙ ap (λ (o : Option StampedWrite). is_some (option_and_then if_live o) && option_map_or (λ v. covers s q v.groups) o false) by.0 ∙ and_from _ _ (live_some w (is_live w) ∙ by.1) by.2
 
   -- ---- where all is there
 
   starred_has : (q : List ℕ) (w : StampedWrite) → finmap.get m q ≡ Some w → is_live w ≡ true → (b : Bool) → (length w.groups == 0) ≡ b → (b || has_group w.groups s.cluster) ≡ true → has_starred x s.cluster stated ≡ true → stands stated q ≡ true
   starred_has q w has lives true none clear all =
-      among_tells x.everyone stated (and_first _ _ all) q (live.for_everyone q ∙ everyone_some m q w has ∙ both_of (is_live w) _ lives none)
+      among_tells x.everyone stated (and_first _ _ all) q (live.for_everyone q ∙ everyone_some m q w has ∙ and_from (is_live w) _ lives none)
   starred_has q w has lives false some clear all =
-      among_tells (in_group x.by_group s.cluster) stated (and_second _ _ all) q (live.for_groups s.cluster q ∙ group_some m s.cluster q w has ∙ both_of (is_live w) _ lives clear)
+      among_tells (in_group x.by_group s.cluster) stated (and_second _ _ all) q (live.for_groups s.cluster q ∙ group_some m s.cluster q w has ∙ and_from (is_live w) _ lives clear)
 
   or_other : (a b : Bool) → (not a || b) ≡ true → a ≡ true → b ≡ true
   or_other true b is so = is
@@ -370,7 +355,7 @@ module _ (m : Entries) (x : LiveNames) (s : Selection) (stated : Marks) (live : 
   -- rule: star-covers, rule: whole-response
   starred_shown : (q : List ℕ) (w : StampedWrite) (f : Bool) → s.star ≡ true → finmap.get m q ≡ Some w → (is_live w && f) ≡ true → (f ≡ true → is_open_to w.groups s.cluster ≡ true) → is_shown_in m s q ≡ true
   starred_shown q w f star has is clear =
-      shown_so q w (has, and_first (is_live w) f is, ap (λ b. set.contains s.names q || b) (both_of s.star _ star (clear (and_second (is_live w) f is))) ∙ or_true (set.contains s.names q))
+      shown_so q w (has, and_first (is_live w) f is, ap (λ b. set.contains s.names q || b) (and_from s.star _ star (clear (and_second (is_live w) f is))) ∙ or-true (set.contains s.names q))
 
   everyone_lacking : s.star ≡ true → are_among x.everyone stated ≡ false → Lacking
   everyone_lacking star none =
@@ -382,7 +367,7 @@ module _ (m : Entries) (x : LiveNames) (s : Selection) (stated : Marks) (live : 
   group_lacking star none =
       let one = among_lacks (in_group x.by_group s.cluster) stated none in
       let w = lives_case one.0 (finmap.get m one.0) (λ v. is_live v && has_group v.groups s.cluster) refl (sym (live.for_groups s.cluster one.0) ∙ one.1) in
-      (one.0, starred_shown one.0 w.0 (has_group w.0.groups s.cluster) star w.1 w.2 (λ is. ap (λ b. (length w.0.groups == 0) || b) is ∙ or_true (length w.0.groups == 0)), one.2)
+      (one.0, starred_shown one.0 w.0 (has_group w.0.groups s.cluster) star w.1 w.2 (λ is. ap (λ b. (length w.0.groups == 0) || b) is ∙ or-true (length w.0.groups == 0)), one.2)
 
   -- rule: star-covers, rule: whole-response
   starred_lacking : (b : Bool) → are_among x.everyone stated ≡ b → s.star ≡ true → (b && are_among (in_group x.by_group s.cluster) stated) ≡ false → Lacking

@@ -1,8 +1,9 @@
 -- A text says one line at most.
-use Rattle.std.proofs.Common.{◌≡◌, ℕ, List, [], ◌∷◌, Some, Result, Ok, Err, inl, inr, refl, ap, sym, ◌∙◌, subst}
+use Rattle.std.proofs.Common.{◌≡◌, ℕ, List, [], ◌∷◌, Result, Ok, Err, inl, inr, refl, ap, sym, ◌∙◌, subst}
 use Rattle.std.specs.Prelude.{codes}
 use Rattle.std.specs.List.{AllZip}
 use Rattle.std.specs.Option.{unwrap_or}
+use Rattle.xds_json.proofs.Lists.{one_value}
 use Rattle.serde_json.specs.Data.{Data}
 use Rattle.xds_resource.specs.declared.types.TypeName.{TypeName}
 use Rattle.xds_resource.specs.declared.types.TypeName.TheVariants as types
@@ -13,6 +14,7 @@ use Rattle.xds_resource.specs.Any.{write_type, stamped_write}
 use Rattle.xds_resource.specs.Resources.{NamedBody}
 use Rattle.xds_resource.specs.Types.{row, type_of_word}
 use Rattle.xds_resource.specs.Writes.{StampedWrite}
+use Rattle.xds_resource.proofs.TypesApart.{word_again}
 use Rattle.xds_message.specs.StampedWrites.{IsSpelledBy, SpellsWrite}
 use Rattle.xds_message.proofs.StampedWriteLemmas.{SpellsWrite-unique, url-injective}
 use Rattle.xds_message.specs.Messages.{Response, SpellsRequest, SpellsResponse}
@@ -26,7 +28,6 @@ use Rattle.xds_check.specs.declared.line.Line.TheVariants as lines
 use Rattle.xds_check.specs.Answers.{Statement, Answer}
 use Rattle.xds_check.specs.Words.{word_of, verb_of, IsStreamText}
 use Rattle.xds_check.specs.Texts.{IsStated, IsLabelled, IsSotwAnswer, IsDeltaAnswer, IsJsonOf, IsBehind, IsBehindStream, SpellsAsking, SpellsAnswer, SaysBehind, Says, request_kind, response_kind, verb_in}
-use Rattle.xds_check.proofs.Finding.{one_value}
 use Rattle.xds_check.proofs.RulesLining.{one_cut, one_number, not_same, sotw_kind, delta_kind, verb_in_word, same_verb}
 
 -- ---- writes
@@ -117,13 +118,6 @@ one_answer a b json e (inr p) (inr q) =
     one_delta q.2.0 a b (subst (λ m. IsDeltaAnswer m a) same p.2.2) q.2.2
 
 -- ---- types by their words
-
-word_again : (t : TypeName) → type_of_word (row t).word ≡ Some t
-word_again types.Cluster = refl
-word_again types.Endpoint = refl
-word_again types.Listener = refl
-word_again types.Route = refl
-word_again types.Secret = refl
 
 one_type : (t u : TypeName) → (row t).word ≡ (row u).word → t ≡ u
 one_type t u e = ap (λ o. unwrap_or o types.Cluster) (sym (word_again t) ∙ ap type_of_word e ∙ word_again u)

@@ -1,8 +1,8 @@
 -- Bytes are one trace at most, and those that are one have no bad line.
-use Rattle.std.proofs.Common.{◌≡◌, ℕ, List, [], ◌∷◌, ◌++◌, length, reverse, drop, get_or, All, Bool, true, false, inl, inr, refl, ap, sym, ◌∙◌, subst, arith, append_assoc, append-nil, length-append, eq-eqb}
-use Rattle.std.specs.Prelude.{◌==◌, ◌||◌}
+use Rattle.std.proofs.Common.{◌≡◌, ℕ, List, [], ◌∷◌, ◌++◌, length, reverse, drop, get_or, All, true, inl, inr, refl, ap, sym, ◌∙◌, subst, arith, append_assoc, append-nil, length-append, eq-eqb}
+use Rattle.std.specs.Prelude.{◌==◌}
 use Rattle.std.specs.List.{list_any}
-use Rattle.std.proofs.lemmas.Bool.{true≢false}
+use Rattle.std.proofs.lemmas.Bool.{true≢false, or_parts, or_right}
 use Rattle.std.proofs.lemmas.List.Elements.{All-head, All-tail}
 use Rattle.xds_check.specs.declared.line.Line.{Line}
 use Rattle.xds_check.specs.Streams.{may_follow}
@@ -13,15 +13,11 @@ use Rattle.xds_check.proofs.Traces.{reverse-front}
 
 -- ---- texts by their line feeds
 
-both_fail : (a b : Bool) → (a || b) ≡ false → (a ≡ false) × (b ≡ false)
-both_fail true b e = absurd (true≢false e)
-both_fail false b e = (refl, e)
-
 rest_is_one : (b : ℕ) (s : List ℕ) → IsOneLine (b ∷ s) → IsOneLine s
-rest_is_one b s one = (both_fail (b == 10) (list_any (λ b. b == 10) s) one).1
+rest_is_one b s one = (or_parts (b == 10) (list_any (λ b. b == 10) s) one).1
 
 first_is_no_feed : (b : ℕ) (s : List ℕ) → IsOneLine (b ∷ s) → b ≡ 10 → ⊥
-first_is_no_feed b s one is = true≢false (sym (eq-eqb b 10 is) ∙ (both_fail (b == 10) (list_any (λ b. b == 10) s) one).0)
+first_is_no_feed b s one is = true≢false (sym (eq-eqb b 10 is) ∙ (or_parts (b == 10) (list_any (λ b. b == 10) s) one).0)
 
 ended_alike : (t u x y : List ℕ) → IsOneLine t → IsOneLine u → t ++ 10 ∷ x ≡ u ++ 10 ∷ y → (t ≡ u) × (x ≡ y)
 ended_alike [] [] x y p q e = (refl, ap (drop 1) e)
@@ -81,13 +77,9 @@ said_from earlier (t ∷ ts) vs (x ∷ before) (y ∷ trace) p q =
     let later = said_from (x ∷ earlier) ts vs before trace p.2 (subst (λ l. SayAll (l ∷ earlier) (ts ++ vs) trace) same q.2) in
     (later.0, subst (λ (e : List Line). SayAll e vs later.0) (sym (reverse-front x before earlier)) later.1)
 
-or_true : (a b : Bool) → b ≡ true → (a || b) ≡ true
-or_true true b e = refl
-or_true false b e = e
-
 has_feed : (v x : List ℕ) → list_any (λ b. b == 10) (v ++ 10 ∷ x) ≡ true
 has_feed [] x = refl
-has_feed (b ∷ v) x = or_true (b == 10) (list_any (λ b. b == 10) (v ++ 10 ∷ x)) (has_feed v x)
+has_feed (b ∷ v) x = or_right (b == 10) (list_any (λ b. b == 10) (v ++ 10 ∷ x)) (has_feed v x)
 
 good_line : (earlier : List Line) (text : List ℕ) (l : Line) → Says text l → may_follow earlier l ≡ true → IsBad earlier text → ⊥
 good_line earlier text l says follows (inl none) = none l says

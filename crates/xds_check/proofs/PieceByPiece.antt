@@ -4,6 +4,7 @@ use Rattle.std.specs.Prelude.{◌==◌}
 use Rattle.std.proofs.lemmas.Bool.{eqb-true, eq-eqb}
 use Rattle.std.specs.List.{list_any}
 use Rattle.std.proofs.lemmas.List.Elements.{All-push, All-nil}
+use Rattle.std.proofs.lemmas.List.{nil_from_length}
 use Rattle.xds_resource.specs.declared.refusal.Refusal.{Refusal}
 use Rattle.xds_resource.specs.declared.refusal.Refusal.TheVariants.{OutOfMemory, BadTrace}
 use Rattle.xds_resource.proofs.Refusing.{memory_or_not}
@@ -14,7 +15,6 @@ use Rattle.xds_check.specs.Checkers.{HasTaken, TakesText, HasRead, IsVerdictOf}
 use Rattle.xds_check.specs.Streams.{may_follow}
 use Rattle.xds_check.specs.Texts.{SayAll, ended, IsOneLine, IsBad, IsFirstBad, IsRefusedAt}
 use Rattle.xds_check.specs.Verdicts.{IsVerdict}
-use Rattle.xds_check.proofs.StreamChanges.{nothing_in}
 use Rattle.xds_check.proofs.Traces.{ended-more, say-more}
 
 -- ---- texts
@@ -51,7 +51,7 @@ all_bytes bytes front piece rest part following more piece_is split =
 
 -- what is_empty tells of what is held
 pub held_none : (length_of : ℕ) (items : List ℕ) (b : Bool) → b ≡ (length_of == 0) → length_of ≡ length items → b ≡ true → items ≡ []
-held_none n items b is same none = nothing_in items (sym same ∙ eqb-true n 0 (sym is ∙ none))
+held_none n items b is same none = nil_from_length items (sym same ∙ eqb-true n 0 (sym is ∙ none))
 
 pub held_some : (length_of : ℕ) (items : List ℕ) (b : Bool) → b ≡ (length_of == 0) → length_of ≡ length items → b ≡ false → items ≢ []
 held_some n items b is same some none = let zero_long = eq-eqb n 0 (same ∙ ap length none) in true≢false (sym zero_long ∙ sym is ∙ some)

@@ -6,6 +6,7 @@ use Rattle.std.specs.Str.{IsUtf8}
 use Rattle.std.specs.Str.Parse.{digits_value}
 use Rattle.std.proofs.lemmas.Bool.{true≢false}
 use Rattle.std.proofs.lemmas.Fmt.{decimal_is_IsNumeral}
+use Rattle.xds_json.proofs.Lists.{one_value}
 use Rattle.xds_resource.specs.Writes.{StampedWrite}
 use Rattle.xds_resource.proofs.NameMaps.{bytes_eq_tells, bytes_eq_same}
 use Rattle.xds_resource.specs.declared.types.TypeName.{TypeName}
@@ -27,7 +28,6 @@ use Rattle.xds_check.specs.declared.words.Verb.{Verb}
 use Rattle.xds_check.specs.declared.words.Verb.TheVariants as verbs
 use Rattle.xds_check.specs.Answers.{Answer}
 use Rattle.xds_check.specs.Texts.{IsJsonOf, IsBehind, IsBehindStream, IsLineOf, IsLineWith, IsText, IsRequestOf, IsRequestWith, IsRequestOn, IsResponseOf, IsResponseWith, IsResponseOn, IsSotwAnswer, IsDeltaAnswer, Says, SaysBehind, SpellsAsking, SpellsAnswer, SpellsSotwAnswer, SpellsDeltaAnswer, request_kind, response_kind, verb_in}
-use Rattle.xds_check.proofs.Finding.{one_value}
 use Rattle.xds_check.specs.Words.{Finds, cut, word_of, verb_of, IsStreamText}
 
 -- ---- the lines of a form

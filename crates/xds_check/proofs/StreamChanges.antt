@@ -1,5 +1,6 @@
 -- What is kept of one stream is taken out, changed and put back.
-use Rattle.std.proofs.Common.{◌≡◌, ◌≢◌, inl, inr, ℕ, List, [], ◌∷◌, length, Bool, true, Option, Some, refl, sym, ap, ◌∙◌, arith, eq-eqb, ne_eqb}
+use Rattle.std.proofs.Common.{◌≡◌, ◌≢◌, inl, inr, ℕ, List, Bool, true, Option, Some, sym, ap, ◌∙◌, eq-eqb, ne_eqb}
+use Rattle.std.proofs.lemmas.List.{nil_from_length}
 use Rattle.std.specs.Prelude.{◌==◌, not, if◌then◌else◌}
 use Rattle.std.specs.List.{list_all}
 use Rattle.std.specs.Option.{unwrap_or}
@@ -43,12 +44,8 @@ request_heard t m talks now r q is s = ap (λ x. talk_at x s) is ∙ changed tal
 pub answer_heard : (t : TypeName) (m : Entries) (talks now : Talks) (r : ℕ) (a : Answer) → now ≡ put_talk talks r (told t m a (talk_at talks r)) → IsHeard t m (lines.Response r a) talks now
 answer_heard t m talks now r a is s = ap (λ x. talk_at x s) is ∙ changed talks r (told t m a) s
 
-pub nothing_in : {X : Type 0} (xs : List X) → length xs ≡ 0 → xs ≡ []
-nothing_in [] none = refl
-nothing_in (x ∷ xs) none = absurd (omega (arith, none))
-
 -- no name waits on a stream of which no line spoke
 pub unheard_waits : (m : Entries) → none_missed m unheard ≡ true
 unheard_waits m =
     ap (λ (es : List (List ℕ × Bool)). list_all (λ e. not (is_missed m unheard e.0)) es)
-    (nothing_in (finmap.entries unheard.waiting) (sym (finmap.len-entries unheard.waiting) ∙ finmap.len-empty text_cmp Bool))
+    (nil_from_length (finmap.entries unheard.waiting) (sym (finmap.len-entries unheard.waiting) ∙ finmap.len-empty text_cmp Bool))

@@ -5,6 +5,7 @@ use Rattle.std.specs.Option.{unwrap_or, option_or, option_map_or}
 use Rattle.std.specs.FinMap as finmap
 use Rattle.std.specs.FinSet as set
 use Rattle.std.proofs.lemmas.Grind.{flat_map-append}
+use Rattle.std.proofs.lemmas.Bool.{or_parts, true≢false}
 use Rattle.xds_resource.specs.declared.types.TypeName.{TypeName}
 use Rattle.xds_resource.proofs.NameMaps.{bytes_eq_swap, get-insert}
 use Rattle.xds_interest.specs.Interests.{Selection, in_cluster, has_name, names_among}
@@ -22,13 +23,6 @@ use Rattle.xds_check.specs.Lines.{Sent, Unanswered, Accepted, Refused, is_unansw
 use Rattle.xds_ledger.specs.Stale as stale
 use Rattle.xds_check.specs.Kept.{StreamTalk, unheard, wanted, introduced, is_stale, is_marked, with_taken, is_answer, answered, begun_now, requested, with_nonce, responded, offer_in}
 use Rattle.xds_check.proofs.Waiting.{listed_waits, mentioned_waits, told_waits}
-
-pub neither : (a b : Bool) → (a || b) ≡ false → (a ≡ false) × (b ≡ false)
-neither true b e = absurd cc
-neither false b e = (refl, e)
-
-never_both : {X : Type 0} → true ≡ false → X
-never_both e = absurd cc
 
 -- ---- the responses
 
@@ -72,10 +66,10 @@ other_nonce m r fate other = (λ i. if is_unanswered (fate i) && other i then fa
 answering : (m : Asking) (r : Sent) → r.fate ≡ Unanswered → bytes_eq r.nonce (nonce_of m) ≡ true → answered_by m r ≡ fated m r
 answering m r fate same = (λ i. if is_unanswered (fate i) && same i then fated m r else r)
 
-unanswering_all : (m : Asking) (rs : List Sent) → is_waiting rs ≡ false → map (answered_by m) rs ≡ rs
+pub unanswering_all : (m : Asking) (rs : List Sent) → is_waiting rs ≡ false → map (answered_by m) rs ≡ rs
 unanswering_all m [] quiet = refl
 unanswering_all m (r ∷ rs) quiet =
-    let both = neither (is_unanswered r.fate) (is_waiting rs) quiet in
+    let both = or_parts (is_unanswered r.fate) (is_waiting rs) quiet in
     (λ i. unanswering m r both.0 i ∷ unanswering_all m rs both.1 i)
 
 settled_fate : (m : Asking) (r : Sent) (rs : List Sent) (o : Offer) (refuses : Bool) → r.offer ≡ o → is_waiting rs ≡ false
@@ -187,7 +181,7 @@ taken_spoken t c begun requests responses pends uses k old (Sotw q) s names = re
   begun_is = s.begun_is;
   sotw = ap (λ a. sotw_asked t a q.resource_names) s.sotw ∙ sotw_is_kept t c (lists requests) q.resource_names ∙ ap (sotw_kept t c) (sym (flat_map-append lists_in requests (Sotw q ∷ [])));
   delta = s.delta ∙ ap (delta_kept t c) (sym (flat_map-append mentions_in requests (Sotw q ∷ []) ∙ append-nil (mentions requests)));
-  strange = λ e. never_both e;
+  strange = λ e. absurd (true≢false e);
   last = s.last;
   stands = s.stands;
   waiting = λ name. listed_waits t (wanted k) k.waiting q.resource_names name
@@ -199,7 +193,7 @@ taken_spoken t c begun requests responses pends uses k old (Delta q) s names = r
   begun_is = s.begun_is;
   sotw = s.sotw ∙ ap (sotw_kept t c) (sym (flat_map-append lists_in requests (Delta q ∷ []) ∙ append-nil (lists requests)));
   delta = ap (λ a. delta_asked t a (mention_in q)) s.delta ∙ delta_is_kept t c (mentions requests) (mention_in q) ∙ ap (delta_kept t c) (sym (flat_map-append mentions_in requests (Delta q ∷ [])));
-  strange = λ e. never_both e;
+  strange = λ e. absurd (true≢false e);
   last = s.last;
   stands = s.stands;
   waiting = λ name. mentioned_waits t k.begun q k.waiting name ∙ (λ i. pending_taken t (s.begun_is i) old (Delta q) name (s.waiting name i));

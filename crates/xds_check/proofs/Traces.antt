@@ -18,9 +18,6 @@ use Rattle.xds_check.proofs.Orderly.{nothing_yet, order_after, follows_same}
 
 -- ---- lists
 
-pub reverse-push : {X : Type 0} (xs : List X) (x : X) → reverse (xs ++ x ∷ []) ≡ x ∷ reverse xs
-reverse-push xs x = reverse-append xs (x ∷ [])
-
 pub reverse-front : {X : Type 0} (x : X) (xs ys : List X) → reverse (x ∷ xs) ++ ys ≡ reverse xs ++ x ∷ ys
 reverse-front x xs ys = ap (λ l. l ++ ys) (reverse_onto xs x []) ∙ append_assoc (reverse xs) (x ∷ []) ys
 
@@ -56,7 +53,7 @@ pub read_more : (bytes rest text next : List ℕ) (number : ℕ) (taken now_take
 read_more bytes rest text next number taken now_taken k after r split one t =
     let follows : may_follow (reverse taken ++ []) t.line ≡ true = ap (λ e. may_follow e t.line) (append-nil (reverse taken)) ∙ sym (follows_same (reverse taken) k t.line r.order_is) ∙ t.follows in
     let order : IsOrderOf (reverse (taken ++ t.line ∷ [])) (kept_after k t.line) =
-    subst (λ (e : List Line). IsOrderOf e (kept_after k t.line)) (sym (reverse-push taken t.line)) (order_after (reverse taken) k t.line r.order_is) in
+    subst (λ (e : List Line). IsOrderOf e (kept_after k t.line)) (sym (reverse-append taken (t.line ∷ []))) (order_after (reverse taken) k t.line r.order_is) in
     record {
       texts = r.texts ++ text ∷ [];
       bytes_are = r.bytes_are ∙ ap (λ (l : List ℕ). ended r.texts ++ l) split ∙ ended-more r.texts text next;

@@ -1,6 +1,6 @@
 -- How far a client's stream is served, turn by turn.
-use Rattle.std.proofs.Common.{◌≡◌, ◌<◌, ◌≤◌, ◌+◌, ◌-◌, ℕ, List, [], ◌∷◌, ◌++◌, Option, Result, Ok, Err, inl, inr, length, take, drop, refl, sym, ap, subst, ◌∙◌, append_assoc, append-nil, arith}
-use Rattle.std.specs.Prelude.{Bool, true, false, IsErrAnd}
+use Rattle.std.proofs.Common.{◌≡◌, ◌<◌, ◌≤◌, ◌+◌, ◌-◌, ℕ, List, [], ◌∷◌, ◌++◌, Option, Ok, Err, inl, inr, length, take, drop, refl, sym, ap, subst, ◌∙◌, append_assoc, append-nil, arith}
+use Rattle.std.specs.Prelude.{Bool, true, false}
 use Rattle.std.specs.Io.KnownBytes.{Appends, Consumes}
 use Rattle.std.proofs.KnownBytes.{Appends-nil, Appends-trans, Consumes-nil, Consumes-trans}
 use Rattle.std.proofs.lemmas.Bool.{cases_lt, false≢true, true≢false}
@@ -11,6 +11,7 @@ use Rattle.xds_resource.specs.declared.refusal.Refusal.{Refusal}
 use Rattle.xds_resource.specs.declared.types.TypeName.{TypeName}
 use Rattle.xds_frames.specs.Frames.{Framed, IsFrame, IsPartial, frame_bytes}
 use Rattle.xds_frames.proofs.Apart.{partial_or_frame}
+use Rattle.xds_frames.proofs.Gatherings.{of_calls as dev}
 use Rattle.xds_frames.specs.Devices.{Device}
 use Rattle.xds_cache.specs.Clients.{Client}
 use Rattle.xds_client.specs.declared.subscription.StreamVariant.{StreamVariant}
@@ -22,17 +23,8 @@ use Rattle.xds_client.specs.Ending.{Devices, EndsEarly}
 use Rattle.xds_client.specs.Running.{Serves}
 use Rattle.xds_client.specs.Turning.{GoesOn, NeedsCalls, ReadsOne, Stops, TakesOne, Turns}
 
--- devices before and after
-abbrev pub dev : Option (List ℕ) → Option (List ℕ) → ℕ → ℕ → Device
-dev b a f g = record { before = b; after = a; failed_before = f; failed_after = g }
-
 abbrev pub devs : Device → Device → Device → ℕ → ℕ → Devices
 devs input server output m n = record { input = input; server = server; output = output; calls_before = m; calls_after = n }
-
--- what holds of a call that is refused as another was
-pub err_is : {X : Type 0} (P : Result X Refusal → Type 0) (r : Result X Refusal) (e : Refusal) → IsErrAnd r (λ f. f ≡ e) → P (Err e) → P r
-err_is P (Ok x) e failed holds = absurd failed
-err_is P (Err f) e failed holds = subst (λ (x : Refusal). P (Err x)) (sym failed) holds
 
 -- ---- one response more
 

@@ -8,6 +8,7 @@ use Rattle.xds_resource.specs.declared.refusal.Refusal.TheVariants.{Device as De
 use Rattle.xds_resource.specs.declared.types.TypeName.{TypeName}
 use Rattle.xds_frames.specs.Frames.{IsPartial}
 use Rattle.xds_frames.specs.Devices.{Wrote, WrotePart}
+use Rattle.xds_frames.proofs.Gatherings.{of_calls as dev}
 use Rattle.xds_cache.specs.Clients.{Client}
 use Rattle.xds_client.specs.declared.subscription.StreamVariant.{StreamVariant}
 use Rattle.xds_client.specs.declared.answering.ResponseReply.{ResponseReply}
@@ -15,7 +16,7 @@ use Rattle.xds_client.specs.Exchanges.{answers}
 use Rattle.xds_client.specs.Ending.{EndsEarly}
 use Rattle.xds_client.specs.Running.{Ends, Serves, Starts}
 use Rattle.xds_client.specs.Turning.{Fills, GivesAnswer, ReadsOne, Stops, TakesOne}
-use Rattle.xds_client.proofs.Serving.{dev, devs}
+use Rattle.xds_client.proofs.Serving.{devs}
 
 ok_is : {A E : Type 0} (a b : A) → ◌≡◌ {A = Result A E} (Ok a) (Ok b) → a ≡ b
 ok_is a b same = cc

@@ -1,14 +1,14 @@
 -- Polls of one type, and of all.
-use Rattle.std.proofs.Common.{◌≡◌, ℕ, ◌+◌, ◌<◌, ◌≤◌, List, [], ◌∷◌, drop, length, get_or, Bool, true, false, ◌||◌, Option, Some, None, Result, Ok, Err, refl, sym, ap, subst, ◌∙◌}
+use Rattle.std.proofs.Common.{◌≡◌, ℕ, ◌+◌, ◌<◌, List, [], ◌∷◌, drop, length, get_or, Bool, true, false, ◌||◌, Option, Some, None, Result, Ok, Err, refl, sym, ap, subst, ◌∙◌}
 use Rattle.std.specs.Prelude.{if◌then◌else◌, is_some, find, IsSome}
 use Rattle.std.specs.List.{list_any}
 use Rattle.std.specs.Option.{option_map_or}
-use Rattle.std.proofs.lemmas.List.{drop_more, drop_all}
 use Rattle.xds_resource.specs.declared.types.TypeName.{TypeName}
 use Rattle.xds_resource.specs.declared.refusal.Refusal.{Refusal}
 use Rattle.xds_resource.specs.PerType.{PerType, at}
 use Rattle.xds_resource.specs.Refusals.{Gives}
 use Rattle.xds_resource.specs.Types.{types}
+use Rattle.xds_resource.proofs.BoolsAndLists.{drop_here}
 use Rattle.xds_message.specs.declared.draft.Draft.{Draft}
 use Rattle.xds_ledger.specs.Offers.{Offer}
 use Rattle.xds_ledger.specs.Sessions.{Session, sending}
@@ -57,12 +57,9 @@ due_by store n ss (Some v) = sym (first_is_any (λ t. is_some (sending v t (at s
 pub due_is : (store : Store) (s : Stream) → is_due store s ≡ is_some (first_due store s types)
 due_is store s = due_by store s.count s.sessions s.variant
 
-next_one : (ts : List TypeName) (i : ℕ) (t d : TypeName) → i < length ts → t ≡ get_or ts i d → drop i ts ≡ t ∷ drop (i + 1) ts
-next_one ts i t d within is = drop_more ts i d within ∙ ap (λ y. y ∷ drop (i + 1) ts) (sym is)
-
 module _ (store : Store) (s : Stream) (ts : List TypeName) (i : ℕ) (t d : TypeName) (end : Option TypeName) (within : i < length ts) (is : t ≡ get_or ts i d) (before : first_due store s (drop i ts) ≡ end) where
   due_if : end ≡ (if is_some (to_send store s t) then Some t else first_due store s (drop (i + 1) ts))
-  due_if = sym before ∙ ap (first_due store s) (next_one ts i t d within is)
+  due_if = sym before ∙ ap (first_due store s) (drop_here ts i t d within is)
 
   -- a type that has nothing to send is passed over
   pub due_later : is_some (to_send store s t) ≡ false → first_due store s (drop (i + 1) ts) ≡ end
@@ -71,10 +68,6 @@ module _ (store : Store) (s : Stream) (ts : List TypeName) (i : ℕ) (t d : Type
   -- one that has something to send is the first
   pub due_here : is_some (to_send store s t) ≡ true → end ≡ Some t
   due_here due = due_if ∙ ap (λ b. if b then Some t else first_due store s (drop (i + 1) ts)) due
-
--- no type has anything to send
-pub due_none : (store : Store) (s : Stream) (ts : List TypeName) (i : ℕ) (end : Option TypeName) → length ts ≤ i → first_due store s (drop i ts) ≡ end → end ≡ None
-due_none store s ts i end all before = sym before ∙ ap (first_due store s) (drop_all i ts all)
 
 -- what a poll of the first type that has something to send gives is what a poll of all does
 pub first_gives : (replica : ℕ) (store : Store) (s : Stream) (ts : List TypeName) (t : TypeName) → first_due store s ts ≡ Some t → polled_first replica store s ts ≡ polled replica store s t

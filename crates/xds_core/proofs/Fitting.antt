@@ -14,6 +14,7 @@ use Rattle.std.specs.Prelude.{◌==◌, if◌then◌else◌, is_some, IfSome, If
 use Rattle.xds_resource.specs.declared.refusal.Refusal.{Refusal}
 use Rattle.xds_resource.specs.Writes.{StampedWrite, text_cmp}
 use Rattle.xds_resource.proofs.TypesApart.{at-with_at, at-with_at_other, at-each, same_type}
+use Rattle.xds_resource.proofs.Refusing.{unless_once}
 use Rattle.xds_catalogue.specs.Holdings.{Holdings, IsCatalogue, nothing_held}
 use Rattle.xds_catalogue.specs.Joins.{joined}
 use Rattle.xds_catalogue.specs.Local.{next_counter}
@@ -30,7 +31,7 @@ use Rattle.xds_core.proofs.StreamsFitting.{later_stream_fits, opening_fits}
 use Rattle.xds_core.specs.Events.{Open, Close, Reply, Opened, Closed}
 use Rattle.xds_core.specs.Steps.{Core, step, fresh, with_stream, stream_step}
 use Rattle.xds_core.specs.Lists.{AllFit, streams_of}
-use Rattle.xds_core.proofs.StepLaws.{put_is, delete_is, unless_once}
+use Rattle.xds_core.proofs.StepLaws.{put_is, delete_is}
 
 -- ---- the streams without their lists
 
@@ -90,7 +91,7 @@ remove_fits store m n all = record {
   ];
 }
 
-nothing_named : IsCatalogue nothing_held.entries
+pub nothing_named : IsCatalogue nothing_held.entries
 nothing_named name = subst (λ o. IfSome o (λ w. w.name ≡ name)) (sym (finmap.get-empty text_cmp name)) tt
 
 each_named : (t : TypeName) → IsCatalogue (at (each nothing_held) t).entries

@@ -1,4 +1,3 @@
-pub mod Copies
 pub mod Walking
 pub mod Polling
 pub mod FirstDue

@@ -16,6 +16,7 @@ use Rattle.xds_resource.specs.Resources.{NamedBody, written, deleted}
 use Rattle.xds_resource.specs.Stamps.{max_counter}
 use Rattle.xds_resource.specs.Types.{is_same_type}
 use Rattle.xds_resource.proofs.TypesApart.{at-with_at, at-with_at_other, same_type}
+use Rattle.xds_resource.proofs.Refusing.{unless_twice, unless_thrice, unless_once}
 use Rattle.xds_resource.specs.Writes.{StampedWrite}
 use Rattle.xds_catalogue.specs.Holdings.{Holdings, Entries}
 use Rattle.xds_catalogue.specs.Joins.{joined}
@@ -91,7 +92,8 @@ stored_keeps : {Y : Type 0} {N : Type 0} (look : Core → Y) (c : Core) (reply :
 stored_keeps look c reply same (Ok p) = same p.1
 stored_keeps look c reply same (Err e) = refl
 
-abbrev opened_to : Core → Core
+-- a stream opens
+abbrev pub opened_to : Core → Core
 opened_to c = record c { opened = c.opened + 1; streams = finmap.insert c.streams (c.opened + 1) opening }
 
 pub number_stays : NumberStays
@@ -187,19 +189,6 @@ written_rises : {N : Type 0} (c : Core) (reply : N → Reply) (s : TypeName) (r 
 written_rises c reply s (Ok p) rises = rises p refl
 written_rises c reply s (Err e) rises = same_counter (at c.store s).entries
 
-unless_at : {A : Type 0} (a b : Bool) (e f : Refusal) (x y : A) → (if a then Err e else (if b then Err f else Ok x)) ≡ Ok y → y ≡ x
-unless_at true b e f x y is = absurd cc
-unless_at false true e f x y is = absurd cc
-unless_at false false e f x y is = cc
-
-unless_late : {A : Type 0} (a b d : Bool) (e f g : Refusal) (x y : A) → (if a then Err e else (if b then Err f else (if d then Err g else Ok x))) ≡ Ok y → y ≡ x
-unless_late true b d e f g x y is = absurd cc
-unless_late false b d e f g x y is = unless_at b d f g x y is
-
-pub unless_once : {A : Type 0} (a : Bool) (e : Refusal) (x y : A) → (if a then Err e else Ok x) ≡ Ok y → y ≡ x
-unless_once true e x y is = absurd cc
-unless_once false e x y is = cc
-
 pub done_with : {X Y : Type 0} (f : X → Y) (r : Result X Refusal) (y : Y) → if_done f r ≡ Ok y → (x : X) × (r ≡ Ok x) × (y ≡ f x)
 done_with f (Ok x) y is = (x, refl, cc)
 done_with f (Err e) y is = absurd cc
@@ -207,13 +196,13 @@ done_with f (Err e) y is = absurd cc
 pub put_is : (p : Store) (t : TypeName) (r : NamedBody) (groups : List (List ℕ)) (writer : ℕ) (q : ℕ × Store) → putting_at p t r groups writer ≡ Ok q → (q.0 ≡ next_counter (at p t)) × (q.1 ≡ with_at p t (joined (at p t) (written (next_counter (at p t)) writer r groups ∷ [])))
 put_is p t r groups writer q is =
     let made = done_with (λ x. (x.0, with_at p t x.1)) (putting (at p t) r groups writer) q is in
-    let which = unless_at (greatest_counter (at p t).entries == max_counter) ((at p t).changes == max_counter) CounterSpent CounterSpent (next_counter (at p t), joined (at p t) (written (next_counter (at p t)) writer r groups ∷ [])) made.0 made.1 in
+    let which = unless_twice (greatest_counter (at p t).entries == max_counter) ((at p t).changes == max_counter) CounterSpent CounterSpent (next_counter (at p t), joined (at p t) (written (next_counter (at p t)) writer r groups ∷ [])) made.0 made.1 in
     (ap (λ x. x.0) made.2 ∙ ap (λ x. x.0) which, ap (λ x. x.1) made.2 ∙ ap (λ x. with_at p t x.1) which)
 
 pub delete_is : (p : Store) (t : TypeName) (name : List ℕ) (writer : ℕ) (q : ℕ × Store) → deleting_at p t name writer ≡ Ok q → (q.0 ≡ next_counter (at p t)) × (q.1 ≡ with_at p t (joined (at p t) (deleted (next_counter (at p t)) writer name ∷ [])))
 delete_is p t name writer q is =
     let made = done_with (λ x. (x.0, with_at p t x.1)) (deleting (at p t) name writer) q is in
-    let which = unless_late (not (has_live (at p t).entries name)) (greatest_counter (at p t).entries == max_counter) ((at p t).changes == max_counter) NotFound CounterSpent CounterSpent (next_counter (at p t), joined (at p t) (deleted (next_counter (at p t)) writer name ∷ [])) made.0 made.1 in
+    let which = unless_thrice (not (has_live (at p t).entries name)) (greatest_counter (at p t).entries == max_counter) ((at p t).changes == max_counter) NotFound CounterSpent CounterSpent (next_counter (at p t), joined (at p t) (deleted (next_counter (at p t)) writer name ∷ [])) made.0 made.1 in
     (ap (λ x. x.0) made.2 ∙ ap (λ x. x.0) which, ap (λ x. x.1) made.2 ∙ ap (λ x. with_at p t x.1) which)
 
 kept_counter : (c : Core) (e : Event) (s : TypeName) → is_write e ≡ false → Rises c.store s (after c e)

@@ -4,6 +4,7 @@ use Rattle.std.specs.Prelude.{bytes_eq, nat_lt, IfSome}
 use Rattle.std.specs.Option.{option_map_or}
 use Rattle.std.specs.FinMap as finmap
 use Rattle.std.proofs.lemmas.Bool.{cases_lt, lt-ltb, le-ltb}
+use Rattle.xds_ledger.proofs.Walking.{never_both, onward_to, not_before, not_itself, later_yet, same_at}
 use Rattle.xds_resource.specs.Writes.{StampedWrite, text_cmp}
 use Rattle.xds_resource.proofs.NameMaps.{get-insert, same_names, bytes_eq_same, bytes_eq_tells}
 use Rattle.xds_resource.proofs.WriteTies.{text_cmp-IsAntisymmetric}
@@ -24,9 +25,6 @@ pub record IsWalkedTo (h : Holdings) (mark last : ℕ) (m : Entries) : Type 0 wh
 same_number : (k : ℕ) → k ≤ k
 same_number k = omega arith
 
-never_both : (mark k : ℕ) → mark < k → k ≤ mark → ⊥
-never_both mark k above below = omega arith
-
 none_yet : (mark : ℕ) (here stands : Option StampedWrite) (o : Option ℕ) → here ≡ None → Found mark mark here stands o
 none_yet mark here stands None none = none
 none_yet mark here stands (Some k) none = (λ _. none, λ _. none, λ above below. absurd (never_both mark k above below))
@@ -34,21 +32,6 @@ none_yet mark here stands (Some k) none = (λ _. none, λ _. none, λ above belo
 -- rule: marks
 pub walk_begins : (h : Holdings) (mark : ℕ) → IsWalkedTo h mark mark finmap.empty
 walk_begins h mark = record { onward = same_number mark; found = λ q. none_yet mark _ (finmap.get h.entries q) (finmap.get h.latest q) (finmap.get-empty text_cmp q) }
-
-onward_to : (mark last number : ℕ) → mark ≤ last → last < number → mark ≤ number
-onward_to mark last number before above = omega arith
-
-not_before : (mark last number : ℕ) → mark ≤ last → last < number → number ≤ mark → ⊥
-not_before mark last number onward above before = omega arith
-
-not_itself : (k : ℕ) → k < k → ⊥
-not_itself k below = omega arith
-
-later_yet : (last number k : ℕ) → last < number → number < k → last < k
-later_yet last number k above later = omega arith
-
-same_at : (number k : ℕ) → number ≤ k → k ≤ number → k ≡ number
-same_at number k low high = omega arith
 
 -- the name that the walk comes by
 found_here : (mark last number : ℕ) (here stands : Option StampedWrite) → mark ≤ last → last < number → here ≡ stands → Found mark number here stands (Some number)

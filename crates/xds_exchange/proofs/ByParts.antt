@@ -2,6 +2,7 @@
 use Rattle.std.proofs.Common.{◌≡◌, ◌≢◌, ◌⊎◌, inl, inr, ℕ, ◌+◌, ◌≤◌, ◌<◌, suc, List, [], ◌∷◌, ◌++◌, length, Bool, true, false, cond, Some, None, Ok, Err, refl, sym, ap, ◌∙◌, arith, append_assoc, append-nil, length-append}
 use Rattle.std.specs.List.{flat_map}
 use Rattle.std.proofs.lemmas.Grind.{flat_map-append}
+use Rattle.std.proofs.Math.Nat.{add_assoc}
 use Rattle.xds_resource.specs.declared.types.TypeName.TheVariants.{Cluster, Endpoint, Listener, Route, Secret}
 use Rattle.xds_resource.specs.declared.refusal.Refusal.{Refusal}
 use Rattle.xds_resource.specs.declared.refusal.Refusal.TheVariants.{OutOfMemory, CounterSpent}
@@ -42,15 +43,12 @@ merged_by-push : (s : Store) (ps : List (List TypedWrite)) (p : List TypedWrite)
 merged_by-push s [] p = refl
 merged_by-push s (q ∷ ps) p = merged_by-push (merged s (by_type q)) ps p
 
-sum_moved : (a b c : ℕ) → a + (b + c) ≡ (a + b) + c
-sum_moved a b c = omega arith
-
 add_none : (n : ℕ) → n + 0 ≡ 0 + n
 add_none n = omega arith
 
 grown_by-push : (s : Store) (ps : List (List TypedWrite)) (p : List TypedWrite) → grown_by s (ps ++ p ∷ []) ≡ grown_by s ps + grown (merged_by s ps) (by_type p)
 grown_by-push s [] p = add_none (grown s (by_type p))
-grown_by-push s (q ∷ ps) p = ap (λ n. grown s (by_type q) + n) (grown_by-push (merged s (by_type q)) ps p) ∙ sum_moved (grown s (by_type q)) (grown_by (merged s (by_type q)) ps) (grown (merged_by (merged s (by_type q)) ps) (by_type p))
+grown_by-push s (q ∷ ps) p = ap (λ n. grown s (by_type q) + n) (grown_by-push (merged s (by_type q)) ps p) ∙ sym (add_assoc (grown s (by_type q)) (grown_by (merged s (by_type q)) ps) (grown (merged_by (merged s (by_type q)) ps) (by_type p)))
 
 -- ---- what is kept from part to part
 
@@ -60,9 +58,6 @@ pub record Merging (before : Core) (ws : List TypedWrite) (parts growth : ℕ) (
   pub counted : parts ≡ length done
   pub grows : growth ≡ grown_by before.store done
   pub is : now ≡ holding before (merged_by before.store done)
-
-pub merging_begins : (c : Core) (ws : List TypedWrite) → Merging c ws 0 0 c ws
-merging_begins c ws = record { done = []; cut = refl; counted = refl; grows = refl; is = refl }
 
 module _ (c : Core) (ws : List TypedWrite) (parts growth : ℕ) (now : Core) (left : List TypedWrite) (h : Merging c ws parts growth now left) where
   cut_on : (p left_then : List TypedWrite) → parts_of left ≡ p ∷ parts_of left_then → parts_of ws ≡ (h.done ++ p ∷ []) ++ parts_of left_then

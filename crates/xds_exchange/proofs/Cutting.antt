@@ -5,9 +5,11 @@ use Rattle.std.proofs.lemmas.Bool.{le-ltb, lt-ltb, ltb-false}
 use Rattle.std.proofs.lemmas.List.{take-append-drop, take-map, drop-map, drop-drop, take_all, length-map, length-take-le}
 use Rattle.std.proofs.lemmas.List.Elements.{All-cons, All-head, All-tail, All-nil, All-append}
 use Rattle.std.proofs.lemmas.List.Sums.{sum_by-append}
+use Rattle.std.proofs.Math.Numerals.{suc-eq-add-one}
 use Rattle.xds_resource.specs.PerType.{PerType}
 use Rattle.xds_resource.specs.TypedWrites.{TypedWrite}
 use Rattle.xds_resource.specs.Writes.{StampedWrite}
+use Rattle.xds_resource.proofs.BoolsAndLists.{both_false}
 use Rattle.xds_message.specs.Batches.{by_type, IsSound}
 use Rattle.xds_message.proofs.BatchLemmas.{map-take-more}
 use Rattle.xds_exchange.proofs.Weights.{weight_few}
@@ -16,14 +18,9 @@ use Rattle.xds_exchange.specs.Parts.{weight, max_writes, max_bytes, is_part, par
 
 -- ---- bounds
 
-both_parts : (a b : Bool) → (not a && not b) ≡ true → (a ≡ false) × (b ≡ false)
-both_parts true b e = absurd cc
-both_parts false true e = absurd cc
-both_parts false false e = (refl, refl)
-
 pub part_bounds : (ws : List TypedWrite) → is_part ws ≡ true → (length ws ≤ max_writes) × (sum_by weight ws ≤ max_bytes)
 part_bounds ws e =
-    let parts = both_parts (nat_lt max_writes (length ws)) (nat_lt max_bytes (sum_by weight ws)) e in
+    let parts = both_false (nat_lt max_writes (length ws)) (nat_lt max_bytes (sum_by weight ws)) e in
     (ltb-false max_writes (length ws) parts.0, ltb-false max_bytes (sum_by weight ws) parts.1)
 
 pub within_bounds : (ws : List TypedWrite) → length ws ≤ max_writes → sum_by weight ws ≤ max_bytes → is_part ws ≡ true
@@ -65,14 +62,11 @@ behind_first part (suc n) (x ∷ xs) within full =
     ∙ behind_first (part ++ x ∷ []) n xs one_more (λ below. subst (λ ws. is_part ws ≡ false) (sym (moved (take (suc n) xs))) (full (omega (arith, below))))
     ∙ ap (λ p. p ∷ parts_of (drop n xs)) (moved (take n xs))
 
-suc_is : (n : ℕ) → n + 1 ≡ suc n
-suc_is n = omega arith
-
 -- the longest beginning within the bounds is the first part
 pub first_part : (ws : List TypedWrite) (n : ℕ) → IsFirstPart ws n → 0 < n → parts_of ws ≡ take n ws ∷ parts_of (drop n ws)
 first_part [] n h some = absurd (omega (arith, h.there, some))
 first_part (x ∷ xs) zero h some = absurd (omega (arith, some))
-first_part (x ∷ xs) (suc n) h some = behind_first (x ∷ []) n xs h.within (λ below. subst (λ k. is_part (take k (x ∷ xs)) ≡ false) (suc_is (suc n)) (h.full (omega (arith, below))))
+first_part (x ∷ xs) (suc n) h some = behind_first (x ∷ []) n xs h.within (λ below. subst (λ k. is_part (take k (x ∷ xs)) ≡ false) (sym (suc-eq-add-one (suc n))) (h.full (omega (arith, below))))
 
 one_weight : (x : TypedWrite) → sum_by weight (x ∷ []) ≡ weight x
 one_weight x = omega arith

@@ -2,7 +2,7 @@
 use Rattle.std.proofs.Common.{◌≡◌, ℕ, ◌+◌, ◌*◌, ◌≤◌, List, [], ◌∷◌, ◌++◌, length, map, true, not, ◌&&◌, nat_lt, bytes_eq, decimal, Option, Some, None, unwrap_or, option_map, All, codes, refl, ap, ◌∙◌, arith, append-nil, get_or, take, subst, sym}
 use Rattle.std.specs.List.{sum_by}
 use Rattle.std.specs.Option.{ForSome}
-use Rattle.std.proofs.lemmas.Bool.{ltb-false, and_parts}
+use Rattle.std.proofs.lemmas.Bool.{ltb-false, and_parts, not-true}
 use Rattle.std.proofs.lemmas.Fmt.{length-decimal-le}
 use Rattle.std.proofs.lemmas.List.Elements.{All-head, All-tail}
 use Rattle.std.proofs.lemmas.List.Sums.{sum_by-cons, sum_by-append}
@@ -20,7 +20,7 @@ use Rattle.xds_message.specs.Batches.{by_type, typed, in_order, batch_fields, ba
 use Rattle.xds_message.specs.StampedWrites.{write_fields, write_object}
 use Rattle.xds_exchange.proofs.Cutting.{part_bounds, sound_parts}
 use Rattle.xds_exchange.proofs.Lengths.{set_len, object_len, item_len, list_len, sum_by-map}
-use Rattle.xds_exchange.proofs.Weights.{not_long, quoted_short}
+use Rattle.xds_exchange.proofs.Weights.{quoted_short}
 use Rattle.xds_exchange.specs.OutboxLaws.{FitFrames}
 use Rattle.xds_exchange.specs.Parts.{weight, is_part, parts_of, batch_frame, IsFirstPart}
 
@@ -36,7 +36,7 @@ url_short Secret = omega arith
 name_short : (name : List ℕ) → is_valid_name name ≡ true → length name ≤ max_name
 name_short name e =
     let parts = and_parts (nat_lt 0 (length name) && not (nat_lt max_name (length name))) (not (bytes_eq name (codes "*"))) e in
-    ltb-false max_name (length name) (not_long (nat_lt max_name (length name)) (and_parts (nat_lt 0 (length name)) (not (nat_lt max_name (length name))) parts.0).1)
+    ltb-false max_name (length name) (not-true (nat_lt max_name (length name)) (and_parts (nat_lt 0 (length name)) (not (nat_lt max_name (length name))) parts.0).1)
 
 counter_short : (n : ℕ) → n ≤ max_counter → length (decimal n) ≤ 19
 counter_short n h = length-decimal-le 19 n (omega arith) (omega (arith, h)) (omega (arith, h))

@@ -12,13 +12,12 @@ use Rattle.xds_resource.specs.Types.{types}
 use Rattle.xds_resource.specs.Writes.{StampedWrite, write_cmp}
 use Rattle.xds_resource.specs.Best.{greater, best}
 use Rattle.xds_resource.proofs.BestWrites.{best_of_both, not_Greater}
-use Rattle.xds_resource.proofs.TypesApart.{same_at_each_type, at-each}
+use Rattle.xds_resource.proofs.TypesApart.{same_at_each_type, at-each, at-per_type}
 use Rattle.xds_catalogue.specs.Holdings.{Entries, Holdings, IsCatalogue, IsNumbered}
 use Rattle.xds_catalogue.specs.Changes.{surpasses}
 use Rattle.xds_catalogue.specs.Joins.{join, joined, IsAbove}
 use Rattle.xds_catalogue.proofs.Catalogues.{get-catalogue_of, best-values}
 use Rattle.xds_catalogue.proofs.JoinLaws.{join_is_above}
-use Rattle.xds_message.proofs.BatchLemmas.{at-per_type}
 use Rattle.xds_core.specs.Since.{is_above, changed_after, changed_since}
 use Rattle.xds_core.specs.Stores.{Store, merged, all_entries}
 use Rattle.xds_exchange.specs.Laws.{ChangesAreAll, AllIsKnown, ZerosKnowNothing, MergesKeepKnowing}

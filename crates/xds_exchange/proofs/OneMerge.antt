@@ -7,14 +7,14 @@ use Rattle.xds_resource.specs.declared.types.TypeName.TheVariants.{Cluster, Endp
 use Rattle.xds_resource.specs.PerType.{at}
 use Rattle.xds_resource.specs.TypedWrites.{TypedWrite, writes_of}
 use Rattle.xds_resource.specs.Types.{types}
-use Rattle.xds_resource.proofs.TypesApart.{same_at_each_type}
+use Rattle.xds_resource.proofs.TypesApart.{same_at_each_type, at-per_type}
 use Rattle.xds_catalogue.specs.Holdings.{IsCatalogue}
 use Rattle.xds_catalogue.specs.Joins.{joined, changes_by}
 use Rattle.xds_catalogue.proofs.Catalogues.{catalogue_of-IsCatalogue}
 use Rattle.xds_catalogue.proofs.Joining.{joined_again, changes_by-append}
 use Rattle.xds_catalogue.proofs.OneWrite.{joined-none}
 use Rattle.xds_message.specs.Batches.{by_type}
-use Rattle.xds_message.proofs.BatchLemmas.{at-per_type, writes_of-append}
+use Rattle.xds_message.proofs.BatchLemmas.{writes_of-append}
 use Rattle.xds_core.specs.Stores.{Store, Batch, merged, grown}
 use Rattle.xds_exchange.specs.Parts.{parts_of}
 use Rattle.xds_exchange.proofs.Cutting.{parts_joined}

@@ -12,7 +12,8 @@ use Rattle.xds_resource.specs.PerType.{PerType, at, with_at, each}
 use Rattle.xds_resource.specs.Resources.{written, deleted}
 use Rattle.xds_resource.specs.Types.{is_same_type}
 use Rattle.xds_resource.specs.Writes.{StampedWrite, write_cmp}
-use Rattle.xds_resource.proofs.TypesApart.{at-with_at, at-with_at_other, at-each, same_type}
+use Rattle.xds_resource.proofs.TypesApart.{at-with_at, at-with_at_other, at-each, same_type, at-per_type}
+use Rattle.xds_resource.proofs.Refusing.{unless_once}
 use Rattle.xds_catalogue.specs.Holdings.{Entries, Holdings, IsCatalogue, IsNumbered}
 use Rattle.xds_catalogue.specs.Joins.{joined, IsAbove}
 use Rattle.xds_catalogue.specs.Local.{next_counter}
@@ -20,14 +21,13 @@ use Rattle.xds_catalogue.proofs.Catalogues.{catalogue_of-IsCatalogue}
 use Rattle.xds_catalogue.proofs.Numbering.{entries_are_numbered}
 use Rattle.xds_ledger.specs.Listed.{IsPast, IsLater}
 use Rattle.xds_ledger.proofs.Later.{later_itself, joined_is_later, past_more}
-use Rattle.xds_message.proofs.BatchLemmas.{at-per_type}
 use Rattle.xds_core.specs.Since.{is_above, marks_of}
 use Rattle.xds_core.specs.Stores.{Store, merging, putting_at, deleting_at, is_spent, grown, merged, if_done}
 use Rattle.xds_core.specs.Events.{Event, Open, Request, Poll, Owes, Close, Put, Delete, Merge, Snapshot, Rest, Since, Reply, Written, Merged}
 use Rattle.xds_core.specs.Legal.{after, left_by}
 use Rattle.xds_core.specs.Steps.{Core}
 use Rattle.xds_core.specs.Laws.{is_write}
-use Rattle.xds_core.proofs.StepLaws.{only_writes_change_the_store, put_is, delete_is, unless_once}
+use Rattle.xds_core.proofs.StepLaws.{only_writes_change_the_store, put_is, delete_is}
 use Rattle.xds_exchange.specs.Laws.{EventsKeepCatalogues, TellersMayWrite, HearersMayWrite, MarksAreTaken}
 use Rattle.xds_exchange.specs.Rounds.{unchanged_after, AreTaken}
 use Rattle.xds_exchange.proofs.Knowing.{above_joined}

@@ -1,8 +1,8 @@
 -- How many bytes what is written of a write has at most.
-use Rattle.std.proofs.Common.{◌≡◌, ℕ, ◌+◌, ◌*◌, ◌≤◌, List, [], ◌∷◌, ◌++◌, length, map, Bool, true, false, not, ◌&&◌, nat_lt, cond, Option, Some, None, unwrap_or, codes, refl, sym, ap, ◌∙◌, subst, arith, length-append}
+use Rattle.std.proofs.Common.{◌≡◌, ℕ, ◌+◌, ◌*◌, ◌≤◌, List, [], ◌∷◌, ◌++◌, length, map, Bool, true, false, not, nat_lt, cond, Option, Some, None, unwrap_or, codes, refl, sym, ap, ◌∙◌, subst, arith, length-append}
 use Rattle.std.specs.List.{list_all}
 use Rattle.std.specs.Option.{ForSome, option_map_or}
-use Rattle.std.proofs.lemmas.Bool.{ltb-false}
+use Rattle.std.proofs.lemmas.Bool.{ltb-false, and_parts, not-true}
 use Rattle.json.specs.Print.{escape_letter, escape_byte, escape, quoted}
 use Rattle.serde_json.specs.Data.{Data, string, object, Members, no_members}
 use Rattle.serde_json.specs.Find.{get}
@@ -38,16 +38,8 @@ quoted_short s = omega (arith, escape_short s, length-append (escape s) (34 ∷ 
 
 -- ---- lists of groups
 
-and_parts : (a b : Bool) → (a && b) ≡ true → (a ≡ true) × (b ≡ true)
-and_parts true b e = (refl, e)
-and_parts false b e = absurd cc
-
-pub not_long : (b : Bool) → not b ≡ true → b ≡ false
-not_long true e = absurd cc
-not_long false e = refl
-
 group_short : (g : List ℕ) → is_group g ≡ true → length g ≤ max_group
-group_short g e = ltb-false max_group (length g) (not_long (nat_lt max_group (length g)) (and_parts (nat_lt 0 (length g)) (not (nat_lt max_group (length g))) e).1)
+group_short g e = ltb-false max_group (length g) (not-true (nat_lt max_group (length g)) (and_parts (nat_lt 0 (length g)) (not (nat_lt max_group (length g))) e).1)
 
 pub comma_short : (later : Bool) → length (comma_if later) ≤ 1
 comma_short true = omega arith

@@ -5,6 +5,8 @@ use Rattle.std.specs.String.{string_bytes}
 use Rattle.std.specs.FinSet as set
 use Rattle.std.proofs.lemmas.Cmp.{nat_list_cmp_total}
 use Rattle.std.proofs.lemmas.List.{take_all}
+use Rattle.std.proofs.Math.Bool.{and-true, and-false, or-false}
+use Rattle.std.proofs.lemmas.Bool.{true≢false, false≢true}
 use Rattle.xds_resource.specs.declared.types.TypeName.{TypeName}
 use Rattle.xds_resource.specs.Writes.{text_cmp}
 use Rattle.xds_resource.proofs.NameMaps.{bytes_eq_tells}
@@ -13,7 +15,7 @@ use Rattle.xds_interest.specs.Delta.{Mention}
 use Rattle.xds_interest.specs.Asked.{Asked, names_after, delta_asked, widened, without_names}
 use Rattle.xds_interest.specs.Laws.{WideningIsUndone, NarrowingIsTheRest}
 use Rattle.xds_interest.proofs.Texts.{contains-from_texts, same_texts}
-use Rattle.xds_interest.proofs.Listed.{or_swap, or_assoc, or-false, list_any-push, texts_more}
+use Rattle.xds_interest.proofs.Listed.{or_swap, or_assoc, list_any-push, texts_more}
 use Rattle.xds_interest.proofs.NameSets.{contains-insert, contains-remove}
 use Rattle.xds_interest.proofs.Made.{names_after_made}
 
@@ -76,10 +78,6 @@ take_first true false rest = refl
 take_first false true rest = refl
 take_first false false rest = refl
 
-and-true : (b : Bool) → b ≡ (b && true)
-and-true true = refl
-and-true false = refl
-
 -- without what is left to take out, what is there now is what was there without all of it
 pub record TakenSoFar {Y : Type 0} (whole left : List (String Y)) (old new : set.FinSet text_cmp) : Type 0 where
   pub has : (q : List ℕ) → (set.contains new q && not (has_name (map string_bytes left) q)) ≡ (set.contains old q && not (has_name (map string_bytes whole) q))
@@ -99,7 +97,7 @@ taken_one whole left rest old new next x is out so_far = record {
 pub taken_all : {Y : Type 0} (from : set.FinSet text_cmp) (whole left : List (String Y)) (old new : set.FinSet text_cmp) → left ≡ [] → set.from_list (map string_bytes whole) ≡ from
     → TakenSoFar whole left old new → new ≡ set.difference old from
 taken_all from whole left old new none is so_far = same_texts _ _ (λ q.
-    and-true (set.contains new q) ∙ ap (λ l. set.contains new q && not (has_name (map string_bytes l) q)) (sym none) ∙ so_far.has q
+    sym (and-true (set.contains new q)) ∙ ap (λ l. set.contains new q && not (has_name (map string_bytes l) q)) (sym none) ∙ so_far.has q
     ∙ ap (λ b. set.contains old q && not b) (sym (contains-from_texts (map string_bytes whole) q) ∙ ap (λ s. set.contains s q) is) ∙ sym (contains-difference old from q))
 
 -- ---- texts that a set lacks, taken out one by one
@@ -109,29 +107,19 @@ pub record RemovedBut {Y : Type 0} (kept : set.FinSet text_cmp) (texts : List (S
   pub has : (q : List ℕ) → set.contains new q ≡ (set.contains old q && not (has_name (map string_bytes (take n texts)) q && not (set.contains kept q)))
 
 pub removed_but_none : {Y : Type 0} (kept : set.FinSet text_cmp) (texts : List (String Y)) (s : set.FinSet text_cmp) → RemovedBut kept texts 0 s s
-removed_but_none kept texts s = record { has = λ q. and-true (set.contains s q) }
-
-and-false : (b : Bool) → false ≡ (b && false)
-and-false true = refl
-and-false false = refl
-
-unless_false : {X : Type 0} → false ≡ true → X
-unless_false wrong = absurd cc
-
-unless_true : {X : Type 0} → true ≡ false → X
-unless_true wrong = absurd cc
+removed_but_none kept texts s = record { has = λ q. sym (and-true (set.contains s q)) }
 
 still_kept : (b h k : Bool) → (b ≡ true → k ≡ true) → (h && not k) ≡ ((h || b) && not k)
 still_kept false true k if_same = refl
 still_kept false false k if_same = refl
-still_kept true h true if_same = sym (and-false h) ∙ and-false (h || true)
-still_kept true h false if_same = unless_false (if_same refl)
+still_kept true h true if_same = and-false h ∙ sym (and-false (h || true))
+still_kept true h false if_same = absurd (false≢true (if_same refl))
 
 one_less : (b o h k : Bool) → (b ≡ true → k ≡ false) → (not b && (o && not (h && not k))) ≡ (o && not ((h || b) && not k))
 one_less false o true k if_same = refl
 one_less false o false k if_same = refl
-one_less true o true true if_same = unless_true (if_same refl)
-one_less true o false true if_same = unless_true (if_same refl)
+one_less true o true true if_same = absurd (true≢false (if_same refl))
+one_less true o false true if_same = absurd (true≢false (if_same refl))
 one_less true true true false if_same = refl
 one_less true true false false if_same = refl
 one_less true false h false if_same = refl

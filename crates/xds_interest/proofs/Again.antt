@@ -1,25 +1,26 @@
 -- A list that says what is kept already: it leaves that as it is, and touches no name.
-use Rattle.std.proofs.Common.{◌≡◌, ℕ, ◌+◌, ◌<◌, ◌≤◌, List, [], ◌∷◌, ◌++◌, map, take, length, get_or, Bool, true, false, cond, not, ◌&&◌, ◌||◌, ◌==◌, refl, sym, ap, ◌∙◌, String, Bor, append_assoc}
+use Rattle.std.proofs.Common.{◌≡◌, ℕ, ◌+◌, ◌<◌, List, [], ◌∷◌, ◌++◌, map, take, length, get_or, Bool, true, false, cond, not, ◌&&◌, ◌||◌, refl, sym, ap, ◌∙◌, String, Bor, append_assoc}
 use Rattle.std.specs.List.{list_any}
 use Rattle.std.specs.Str.{bytes_eq}
 use Rattle.std.specs.String.{string_bytes}
 use Rattle.std.specs.FinSet as set
 use Rattle.std.proofs.lemmas.Cmp.{nat_list_cmp_total}
-use Rattle.std.proofs.lemmas.List.{take_all, take_more, map-append}
+use Rattle.std.proofs.lemmas.List.{take_more, map-append}
 use Rattle.std.proofs.lemmas.List.Elements.{filter-append}
+use Rattle.std.proofs.Math.Bool.{and-true}
 use Rattle.xds_resource.specs.declared.types.TypeName.{TypeName}
 use Rattle.xds_resource.specs.Types.{row}
 use Rattle.xds_resource.specs.Writes.{text_cmp}
-use Rattle.xds_resource.proofs.NameMaps.{bytes_eq_tells}
-use Rattle.xds_interest.specs.Interests.{Selection, star_text, is_star, has_name, names_among, in_cluster}
+use Rattle.xds_resource.proofs.NameMaps.{bytes_eq_tells, texts_of}
+use Rattle.xds_interest.specs.Interests.{star_text, is_star, has_name, names_among, in_cluster}
 use Rattle.xds_interest.specs.SotW.{is_named}
 use Rattle.xds_interest.specs.Asked.{Asked, list_says, sotw_asked}
-use Rattle.xds_interest.specs.Touched.{exactly_one}
 use Rattle.xds_interest.specs.Laws.{UnchangedTouchesNothing}
 use Rattle.xds_interest.proofs.Texts.{same_texts}
-use Rattle.xds_interest.proofs.Listed.{unnamed-by_length, names_among-push_star}
-use Rattle.xds_interest.proofs.Ordered.{seen, all_names}
+use Rattle.xds_interest.proofs.Listed.{names_among-push_star}
+use Rattle.xds_interest.proofs.Ordered.{all_names}
 use Rattle.xds_interest.proofs.SotwLaws.{list_any-is_star}
+use Rattle.xds_interest.proofs.Choices.{exactly_one_of_same}
 
 -- ---- a list beside the names of a set, text by text
 
@@ -43,43 +44,19 @@ alike_name t first more whole left rest k x pushed plain next same so_far =
     so_far ∙ ap (λ l. names_among t first ++ l) next ∙ ap (λ q. names_among t first ++ q ∷ rest) (bytes_eq_tells k x same) ∙ sym (append_assoc (names_among t first) (x ∷ []) rest)
     ∙ ap (λ l. l ++ rest) (sym (names_among-push_name t first x plain) ∙ ap (names_among t) (sym pushed))
 
-pub not_other : (b : Bool) → not b ≡ false → b ≡ true
-not_other true h = refl
-not_other false h = absurd cc
-
-append-none : {X : Type 0} (xs : List X) → xs ++ [] ≡ xs
-append-none [] = refl
-append-none (x ∷ xs) = ap (λ l. x ∷ l) (append-none xs)
-
-alike_all : (t : TypeName) (texts whole left : List (List ℕ)) (s : set.FinSet text_cmp) → left ≡ [] → set.from_list whole ≡ s → Alike t texts whole left → s ≡ set.from_list (names_among t texts)
-alike_all t texts whole left s none is so_far = sym is ∙ ap (λ l. set.from_list l) (so_far ∙ ap (λ l. names_among t texts ++ l) none ∙ append-none (names_among t texts))
-
-pub alike_strings : {Y Z : Type 0} (t : TypeName) (texts : List (String Y)) (n : ℕ) (whole left : List (String Z)) (s : set.FinSet text_cmp) → length texts ≤ n → left ≡ []
-    → set.from_list (map string_bytes whole) ≡ s → AlikeStrings t texts n whole left → s ≡ set.from_list (names_among t (map string_bytes texts))
-alike_strings t texts n whole left s all none is so_far =
-    alike_all t (map string_bytes texts) (map string_bytes whole) (map string_bytes left) s (ap (map string_bytes) none) is
-    (so_far ∙ ap (λ l. names_among t (map string_bytes l) ++ map string_bytes left) (take_all n texts all))
-
 -- ---- borrowed texts beside the names of a set
 
 -- the first texts, and what is left of the names, are all names
 abbrev pub InTurn : {Z : Type 0} → List (Bor (List ℕ)) → ℕ → List (String Z) → List (String Z) → Type 0
-InTurn texts n whole left = map string_bytes whole ≡ seen (take n texts) ++ map string_bytes left
+InTurn texts n whole left = map string_bytes whole ≡ texts_of (take n texts) ++ map string_bytes left
 
 pub in_turn_more : {Z : Type 0} (texts : List (Bor (List ℕ))) (n : ℕ) (whole left rest : List (String Z)) (k : String Z) (d : Bor (List ℕ)) → n < length texts → left ≡ k ∷ rest
     → bytes_eq (string_bytes k) (get_or texts n d).now ≡ true → InTurn texts n whole left → InTurn texts (n + 1) whole rest
 in_turn_more texts n whole left rest k d within next same so_far =
     let x : Bor (List ℕ) = get_or texts n d in
-    so_far ∙ ap (λ l. seen (take n texts) ++ map string_bytes l) next ∙ ap (λ q. seen (take n texts) ++ q ∷ map string_bytes rest) (bytes_eq_tells (string_bytes k) x.now same)
-    ∙ sym (append_assoc (seen (take n texts)) (x.now ∷ []) (map string_bytes rest))
-    ∙ ap (λ l. l ++ map string_bytes rest) (sym (map-append (λ s. s.now) (take n texts) (x ∷ [])) ∙ ap seen (sym (take_more texts n d within)))
-
-pub in_turn_all : {Z : Type 0} (texts : List (Bor (List ℕ))) (n : ℕ) (whole left : List (String Z)) (s : set.FinSet text_cmp) → length texts ≤ n → left ≡ [] → set.from_list (map string_bytes whole) ≡ s
-    → InTurn texts n whole left → s ≡ set.from_list (seen texts)
-in_turn_all texts n whole left s all none is so_far =
-    sym is
-    ∙ ap (λ l. set.from_list l)
-    (so_far ∙ ap (λ l. seen (take n texts) ++ map string_bytes l) none ∙ append-none (seen (take n texts)) ∙ ap seen (take_all n texts all))
+    so_far ∙ ap (λ l. texts_of (take n texts) ++ map string_bytes l) next ∙ ap (λ q. texts_of (take n texts) ++ q ∷ map string_bytes rest) (bytes_eq_tells (string_bytes k) x.now same)
+    ∙ sym (append_assoc (texts_of (take n texts)) (x.now ∷ []) (map string_bytes rest))
+    ∙ ap (λ l. l ++ map string_bytes rest) (sym (map-append (λ s. s.now) (take n texts) (x ∷ [])) ∙ ap texts_of (sym (take_more texts n d within)))
 
 -- of a list without the star all texts are names
 pub plain_names : (t : TypeName) (xs ys : List (List ℕ)) → list_any (is_star t) ys ≡ false → set.from_list {R = text_cmp} xs ≡ set.from_list ys → set.from_list {R = text_cmp} xs ≡ set.from_list (names_among t ys)
@@ -87,33 +64,14 @@ plain_names t xs ys plain same = same ∙ ap (λ l. set.from_list l) (sym (all_n
 
 -- ---- what a list says
 
-as_it_is : (c : Bool) → (c && true) ≡ c
-as_it_is true = refl
-as_it_is false = refl
-
 star_said : (t : TypeName) (named : Bool) (texts : List (List ℕ)) → ((row t).is_complete && ((not named && not (is_named texts)) || has_name texts star_text)) ≡ (list_says t named texts).star
 star_said t true texts = sym (list_any-is_star t texts)
-star_said t false [] = as_it_is (row t).is_complete
+star_said t false [] = and-true (row t).is_complete
 star_said t false (x ∷ xs) = sym (list_any-is_star t (x ∷ xs))
-
-pub said_star : {Y : Type 0} (t : TypeName) (named : Bool) (names : List (String Y))
-    → ((row t).is_complete && ((not named && (length names == 0)) || has_name (map string_bytes names) star_text)) ≡ (list_says t named (map string_bytes names)).star
-said_star t named names =
-    ap (λ b. (row t).is_complete && ((not named && b) || has_name (map string_bytes names) star_text)) (unnamed-by_length names) ∙ star_said t named (map string_bytes names)
 
 -- of an incomplete type no list says the star
 pub closed_said : (t : TypeName) (named : Bool) (texts : List (List ℕ)) → (row t).is_complete ≡ false → (list_says t named texts).star ≡ false
 closed_said t named texts incomplete = sym (star_said t named texts) ∙ ap (λ c. c && ((not named && not (is_named texts)) || has_name texts star_text)) incomplete
-
-names_said : (t : TypeName) (named : Bool) (texts : List (List ℕ)) → set.from_list {R = text_cmp} (names_among t texts) ≡ (list_says t named texts).names
-names_said t true texts = refl
-names_said t false [] = refl
-names_said t false (x ∷ xs) = refl
-
--- an interest of this star and these names is what the list says
-pub said_again : (t : TypeName) (named : Bool) (texts : List (List ℕ)) (s : Selection) → s.star ≡ (list_says t named texts).star → s.names ≡ set.from_list (names_among t texts)
-    → in_cluster s.cluster (list_says t named texts) ≡ s
-said_again t named texts s star_is names_are = (λ i. record { star = sym star_is i; names = sym (names_are ∙ names_said t named texts) i; cluster = s.cluster })
 
 named_before : (n m : Bool) → (n || not m) ≡ true → (n || m) ≡ n
 named_before true m h = refl
@@ -128,10 +86,6 @@ asked_again t a texts begun named is = (λ i. record { begun = sym begun i; name
 
 -- ---- touched names
 
-neither : (b : Bool) → exactly_one b b ≡ false
-neither true = refl
-neither false = refl
-
 none_left : (b : Bool) → ((b && not b) || (b && not b)) ≡ false
 none_left true = refl
 none_left false = refl
@@ -142,4 +96,4 @@ none_touched n = same_texts _ _ (λ q.
     ∙ none_left (set.contains n q) ∙ sym (set.contains-empty text_cmp q))
 
 pub unchanged_touches_nothing : UnchangedTouchesNothing
-unchanged_touches_nothing s = (λ i. record { all = neither s.star i; names = none_touched s.names i })
+unchanged_touches_nothing s = (λ i. record { all = exactly_one_of_same s.star i; names = none_touched s.names i })

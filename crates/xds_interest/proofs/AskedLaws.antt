@@ -7,6 +7,7 @@ use Rattle.std.proofs.lemmas.Bool.{or_parts}
 use Rattle.std.proofs.lemmas.Cmp.{nat_list_cmp_total}
 use Rattle.std.proofs.lemmas.List.Folds.{list_any-append}
 use Rattle.std.proofs.lemmas.Map.Views.{any-filter_same}
+use Rattle.std.proofs.Math.Bool.{or-false}
 use Rattle.xds_resource.specs.declared.types.TypeName.{TypeName}
 use Rattle.xds_resource.specs.Types.{row}
 use Rattle.xds_resource.specs.Writes.{text_cmp}
@@ -20,7 +21,7 @@ use Rattle.xds_interest.specs.Touches.{touches, sotw_touch, delta_touch}
 use Rattle.xds_interest.specs.Laws.{SotwIsKept, DeltaIsKept, SotwTouchIsASet, DeltaTouchIsASet, KeptStarIsOfComplete, UntouchedKeepsReachOfKept, UntouchedKeepsReachOfKeptInDelta, UntouchedKeepsCoverOfKept, UntouchedKeepsCoverOfKeptInDelta}
 use Rattle.xds_interest.proofs.Texts.{contains-from_texts, has_name-items, same_texts}
 use Rattle.xds_interest.proofs.Choices.{and_second, or_kept, word_now, complete_twice, exactly_one-swapped, kept_star, kept_name}
-use Rattle.xds_interest.proofs.Listed.{or-false, list_any-push}
+use Rattle.xds_interest.proofs.Listed.{list_any-push}
 use Rattle.xds_interest.proofs.SotwLaws.{last_list-push, list_any-is_star, has_name-names_among, untouched_keeps_reach}
 use Rattle.xds_interest.proofs.Reaching.{untouched_keeps_cover}
 use Rattle.xds_interest.proofs.DeltaLaws.{last_word-push, star-push, contains-delta}

@@ -2,15 +2,8 @@
 use Rattle.std.proofs.Common.{◌≡◌, Bool, true, false, ◌&&◌, ◌||◌, not, if◌then◌else◌, Option, Some, None, unwrap_or, refl, sym, ap, ◌∙◌}
 use Rattle.std.specs.Option.{option_or}
 use Rattle.std.proofs.lemmas.Bool.{or_right, or_parts, true≢false}
+use Rattle.std.proofs.Math.Bool.{and-false}
 use Rattle.xds_interest.specs.Touched.{exactly_one}
-
-pub and-true : (b : Bool) → (b && true) ≡ b
-and-true true = refl
-and-true false = refl
-
-pub and-false : (b : Bool) → (b && false) ≡ false
-and-false true = refl
-and-false false = refl
 
 -- a fact that follows from another adds nothing to it
 pub and_implied : (p q : Bool) → (p ≡ true → q ≡ true) → (p && q) ≡ p
@@ -31,6 +24,10 @@ or_kept true false false false same = refl
 or_kept false s true b same = refl
 or_kept false s false b same = refl
 
+pub exactly_one_of_same : (b : Bool) → exactly_one b b ≡ false
+exactly_one_of_same true = refl
+exactly_one_of_same false = refl
+
 pub exactly_one-false : (a b : Bool) → exactly_one a b ≡ false → a ≡ b
 exactly_one-false true true h = refl
 exactly_one-false true false h = absurd (true≢false h)
@@ -39,10 +36,6 @@ exactly_one-false false false h = refl
 
 pub neither_one : (a b c d : Bool) → (exactly_one a b || exactly_one c d) ≡ false → (a || c) ≡ (b || d)
 neither_one a b c d h = let parts : (exactly_one a b ≡ false) × (exactly_one c d ≡ false) = or_parts _ _ h in (λ i. exactly_one-false a b parts.0 i || exactly_one-false c d parts.1 i)
-
-pub option_or-None : {A : Type 0} (o : Option A) → option_or o None ≡ o
-option_or-None None = refl
-option_or-None (Some x) = refl
 
 pub option_or_assoc : {A : Type 0} (a b c : Option A) → option_or (option_or a b) c ≡ option_or a (option_or b c)
 option_or_assoc None b c = refl

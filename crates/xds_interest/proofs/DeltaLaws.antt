@@ -7,14 +7,16 @@ use Rattle.std.proofs.lemmas.Bool.{or_parts}
 use Rattle.std.proofs.lemmas.List.Folds.{list_any-append}
 use Rattle.std.proofs.lemmas.Map.Views.{any-filter_same}
 use Rattle.std.proofs.lemmas.Slice.Eq.{bytes_eq-Decides}
+use Rattle.std.proofs.Math.Bool.{and-true, and-false}
 use Rattle.xds_resource.specs.declared.types.TypeName.{TypeName}
 use Rattle.xds_resource.specs.Types.{row}
+use Rattle.xds_resource.proofs.BoolsAndLists.{option_or-None}
 use Rattle.xds_interest.specs.Interests.{star_text, is_star, has_name}
 use Rattle.xds_interest.specs.Delta.{Mention, said, last_said, is_subscribed, opens_unnamed, ever_subscribed, delta_interest}
 use Rattle.xds_interest.specs.Touched.{mentions}
 use Rattle.xds_interest.specs.Laws.{OneRequestMore, OneRequestMoreForTheStar, UntouchedKeepsReachInDelta}
 use Rattle.xds_interest.proofs.Texts.{contains-from_texts}
-use Rattle.xds_interest.proofs.Choices.{and-true, and-false, and_implied, and_first, option_or-None, option_or_assoc, last_word, word_was_said, unmentioned, unmentioned_star}
+use Rattle.xds_interest.proofs.Choices.{and_implied, and_first, option_or_assoc, last_word, word_was_said, unmentioned, unmentioned_star}
 
 last_said-push : (ms : List Mention) (m : Mention) (text : List ℕ) → last_said (ms ++ m ∷ []) text ≡ option_or (said m text) (last_said ms text)
 last_said-push [] m text = sym (option_or-None (said m text))

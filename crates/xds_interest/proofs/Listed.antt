@@ -6,13 +6,10 @@ use Rattle.std.specs.String.{string_bytes}
 use Rattle.std.proofs.lemmas.List.{map-append, append-nil, take_more}
 use Rattle.std.proofs.lemmas.List.Elements.{filter-append}
 use Rattle.std.proofs.lemmas.Bool.{or_right, ne_eqb}
+use Rattle.std.proofs.Math.Bool.{or-false}
 use Rattle.xds_resource.specs.declared.types.TypeName.{TypeName}
 use Rattle.xds_interest.specs.Interests.{is_star, has_name, names_among}
 use Rattle.xds_interest.specs.SotW.{is_named}
-
-pub or-false : (b : Bool) → (b || false) ≡ b
-or-false true = refl
-or-false false = refl
 
 pub or_swap : (a b : Bool) → (a || b) ≡ (b || a)
 or_swap true b = sym (or_right b true refl)

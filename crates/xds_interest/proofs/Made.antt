@@ -1,11 +1,11 @@
 -- What the functions make is what the definitions say.
-use Rattle.std.proofs.Common.{◌≡◌, ℕ, List, [], ◌∷◌, ◌++◌, map, length, Bool, true, false, ◌&&◌, ◌||◌, not, ◌==◌, refl, sym, ap, ◌∙◌, String}
+use Rattle.std.proofs.Common.{◌≡◌, ℕ, List, [], ◌∷◌, ◌++◌, Bool, true, false, ◌&&◌, ◌||◌, not, refl, sym, ap, ◌∙◌}
 use mathlib.Core.Bool.{beq}
 use Rattle.std.specs.Str.{bytes_eq}
-use Rattle.std.specs.String.{string_bytes}
 use Rattle.std.specs.FinSet as set
 use Rattle.std.proofs.lemmas.List.Elements.{filter-append}
 use Rattle.std.proofs.lemmas.List.Folds.{list_any-append}
+use Rattle.std.proofs.Math.Bool.{and-true}
 use Rattle.xds_resource.specs.declared.types.TypeName.{TypeName}
 use Rattle.xds_resource.specs.Types.{row}
 use Rattle.xds_resource.specs.Writes.{text_cmp}
@@ -16,7 +16,7 @@ use Rattle.xds_interest.specs.Touched.{exactly_one}
 use Rattle.xds_interest.specs.Asked.{names_after}
 use Rattle.xds_interest.specs.Touches.{Touch, sotw_touch, delta_touch}
 use Rattle.xds_interest.proofs.Texts.{contains-from_texts, same_texts}
-use Rattle.xds_interest.proofs.Listed.{or_swap, unnamed-by_length}
+use Rattle.xds_interest.proofs.Listed.{or_swap}
 use Rattle.xds_interest.proofs.NameSets.{union-empty, contains-union_list, contains-difference_list, and_swap}
 use Rattle.xds_interest.proofs.SotwLaws.{list_any-is_star, has_name-names_among}
 use Rattle.xds_interest.proofs.AskedLaws.{contains-names_after}
@@ -26,16 +26,9 @@ selection star names cluster = record { star = star; names = names; cluster = cl
 
 -- ---- the first list
 
-and-or_false : (c : Bool) → c ≡ (c && true)
-and-or_false true = refl
-and-or_false false = refl
-
 star_of_first : (t : TypeName) (texts : List (List ℕ)) → (sotw_interest t (texts ∷ [])).star ≡ ((row t).is_complete && (not (is_named texts) || has_name texts star_text))
-star_of_first t [] = and-or_false (row t).is_complete
+star_of_first t [] = sym (and-true (row t).is_complete)
 star_of_first t (x ∷ xs) = list_any-is_star t (x ∷ xs)
-
-pub opened_star : {Y : Type 0} (t : TypeName) (names : List (String Y)) → ((row t).is_complete && ((length names == 0) || has_name (map string_bytes names) star_text)) ≡ (sotw_interest t (map string_bytes names ∷ [])).star
-opened_star t names = ap (λ b. (row t).is_complete && (b || has_name (map string_bytes names) star_text)) (unnamed-by_length names) ∙ sym (star_of_first t (map string_bytes names))
 
 -- of an incomplete type the first list is no star
 pub closed_star : (t : TypeName) (texts : List (List ℕ)) → (row t).is_complete ≡ false → (sotw_interest t (texts ∷ [])).star ≡ false

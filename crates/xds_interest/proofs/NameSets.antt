@@ -12,12 +12,13 @@ use Rattle.std.proofs.lemmas.Map.Text.{is_eq-slice_cmp, btree_set_updates_text}
 use Rattle.std.proofs.lemmas.Map.Views.{any-filter_same}
 use Rattle.std.proofs.lemmas.List.{take_all}
 use Rattle.std.proofs.lemmas.List.Folds.{list_any_at}
+use Rattle.std.proofs.Math.Bool.{and-true, or-false}
 use Rattle.xds_resource.specs.declared.types.TypeName.{TypeName}
 use Rattle.xds_resource.specs.Writes.{text_cmp}
 use Rattle.xds_resource.proofs.NameMaps.{bytes_eq_tells, bytes_eq_swap}
 use Rattle.xds_interest.specs.Interests.{is_star, has_name, names_among}
 use Rattle.xds_interest.proofs.Texts.{contains-from_texts, same_texts, has_name-strings, has_name-inserted}
-use Rattle.xds_interest.proofs.Listed.{or-false, or_swap, or_assoc, list_any-push, names_among-push_star, has_name-push_name, texts_more}
+use Rattle.xds_interest.proofs.Listed.{or_swap, or_assoc, list_any-push, names_among-push_star, has_name-push_name, texts_more}
 
 -- a list of strings has a text
 pub has_name-map : {Y : Type 0} (ks : List (String Y)) (q : List ℕ) → has_name (map string_bytes ks) q ≡ list_any (λ k. bytes_eq q (string_bytes k)) ks
@@ -120,16 +121,12 @@ take_out false true true = refl
 take_out false true false = refl
 take_out false false h = refl
 
-and-true : (b : Bool) → b ≡ (b && true)
-and-true true = refl
-and-true false = refl
-
 -- the first texts of a list were taken out
 pub record RemovedSoFar {Y : Type 0} (texts : List (String Y)) (n : ℕ) (old new : set.FinSet text_cmp) : Type 0 where
   pub has : (q : List ℕ) → set.contains new q ≡ (set.contains old q && not (has_name (map string_bytes (take n texts)) q))
 
 pub removed_none : {Y : Type 0} (texts : List (String Y)) (s : set.FinSet text_cmp) → RemovedSoFar texts 0 s s
-removed_none texts s = record { has = λ q. and-true (set.contains s q) }
+removed_none texts s = record { has = λ q. sym (and-true (set.contains s q)) }
 
 pub removed_one : {Y : Type 0} (texts : List (String Y)) (n : ℕ) (old new next : set.FinSet text_cmp) (x : String Y) → n < length texts → x ≡ get_or texts n x
     → next ≡ set.remove new (string_bytes x) → RemovedSoFar texts n old new → RemovedSoFar texts (n + 1) old next
@@ -169,13 +166,6 @@ pub record DifferenceLeft {Y : Type 0} (other : set.FinSet text_cmp) (whole left
 
 pub difference_start : {Y : Type 0} (other : set.FinSet text_cmp) (whole : List (String Y)) (s : set.FinSet text_cmp) → DifferenceLeft other whole whole s s
 difference_start other whole s = record { has = λ q. refl }
-
-pub difference_kept : {Y : Type 0} (other : set.FinSet text_cmp) (whole left rest : List (String Y)) (old new : set.FinSet text_cmp) (x : String Y)
-    → left ≡ x ∷ rest → set.contains other (string_bytes x) ≡ true → DifferenceLeft other whole left old new → DifferenceLeft other whole rest old new
-difference_kept other whole left rest old new x is has so_far = record {
-  has = λ q. ap (λ b. set.contains new q || has_name (cond (not b) (string_bytes x ∷ lacked other (map string_bytes rest)) (lacked other (map string_bytes rest))) q) (sym has)
-      ∙ ap (λ l. set.contains new q || has_name (lacked other (map string_bytes l)) q) (sym is) ∙ so_far.has q;
-}
 
 pub difference_put : {Y : Type 0} (other : set.FinSet text_cmp) (whole left rest : List (String Y)) (old new next : set.FinSet text_cmp) (x : String Y)
     → left ≡ x ∷ rest → set.contains other (string_bytes x) ≡ false → next ≡ set.insert new (string_bytes x) → DifferenceLeft other whole left old new

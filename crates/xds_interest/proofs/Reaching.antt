@@ -2,10 +2,11 @@
 use Rattle.std.proofs.Common.{◌≡◌, Bool, true, false, ◌&&◌, ◌||◌, ap, ◌∙◌, refl}
 use Rattle.std.specs.FinSet as set
 use Rattle.std.proofs.lemmas.Bool.{or_parts}
+use Rattle.std.proofs.Math.Bool.{and-true}
 use Rattle.xds_interest.specs.Interests.{is_open_to}
 use Rattle.xds_interest.specs.Touched.{exactly_one}
 use Rattle.xds_interest.specs.Laws.{CoveredIsReached, WithoutGroupsReachedIsCovered, UntouchedKeepsCover}
-use Rattle.xds_interest.proofs.Choices.{and-true, exactly_one-false}
+use Rattle.xds_interest.proofs.Choices.{exactly_one-false}
 use Rattle.xds_interest.proofs.Listed.{or_swap}
 
 -- e: an explicit name; s: the star; o: it is open to the cluster

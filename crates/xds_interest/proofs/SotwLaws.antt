@@ -7,6 +7,7 @@ use Rattle.std.proofs.lemmas.Map.Views.{any-filter_same}
 use Rattle.std.proofs.lemmas.Bool.{cond-true, cond-false}
 use Rattle.std.proofs.lemmas.List.Folds.{list_any_at}
 use Rattle.std.proofs.lemmas.Slice.Eq.{bytes_eq-Decides}
+use Rattle.std.proofs.Math.Bool.{and-false}
 use Rattle.xds_resource.specs.declared.types.TypeName.{TypeName}
 use Rattle.xds_resource.specs.Types.{row}
 use Rattle.xds_resource.specs.Writes.{text_cmp}
@@ -14,7 +15,7 @@ use Rattle.xds_interest.specs.Interests.{star_text, is_star, has_name, names_amo
 use Rattle.xds_interest.specs.SotW.{is_named, last_list, unnamed, listed, sotw_interest}
 use Rattle.xds_interest.specs.Laws.{LastListSaysAll, WhileNothingIsNamed, ListReachesItsNames, UntouchedKeepsReach}
 use Rattle.xds_interest.proofs.Texts.{contains-from_texts}
-use Rattle.xds_interest.proofs.Choices.{and-false, and-or, and_second, or_kept, neither_one}
+use Rattle.xds_interest.proofs.Choices.{and-or, and_second, or_kept, neither_one}
 
 pub last_list-push : (lists : List (List (List ℕ))) (last : List (List ℕ)) → last_list (lists ++ last ∷ []) ≡ last
 last_list-push [] last = refl

@@ -1,5 +1,6 @@
 -- How deep an object of fields nests, and that it holds no float where its fields hold none.
-use Rattle.std.proofs.Common.{◌≡◌, ℕ, zero, suc, ◌≤◌, ℤ, pos, negsuc, List, [], ◌∷◌, Bool, true, false, ◌||◌, map, Option, Some, None, option_map, All, Ordering, Less, Equal, Greater, refl, arith}
+use Rattle.std.proofs.Common.{◌≡◌, ℕ, zero, suc, ◌≤◌, ℤ, pos, negsuc, List, [], ◌∷◌, false, map, Option, Some, None, option_map, All, Ordering, Less, Equal, Greater, refl, arith}
+use Rattle.std.proofs.lemmas.Bool.{or_parts, or_from}
 use Rattle.std.specs.Prelude.{⊤}
 use Rattle.std.specs.Ordering.{match_ordering}
 use Rattle.serde_json.specs.Data.{Data, string, Members, no_members, member, put, depth, items_depth, members_depth}
@@ -52,19 +53,11 @@ members_have_float-match_ordering Less a b c p q r = p
 members_have_float-match_ordering Equal a b c p q r = q
 members_have_float-match_ordering Greater a b c p q r = r
 
-both : (a b : Bool) → (a || b) ≡ false → (a ≡ false) × (b ≡ false)
-both true b h = absurd (cc)
-both false b h = (refl, h)
-
-pub neither : (a b : Bool) → a ≡ false → b ≡ false → (a || b) ≡ false
-neither true b p q = absurd (cc)
-neither false b p q = q
-
 pub members_have_float-put : (k : List ℕ) (d : Data) (ms : Members) → has_float d ≡ false → members_have_float ms ≡ false → members_have_float (put k d ms) ≡ false
-members_have_float-put k d no_members p q = neither _ _ p refl
+members_have_float-put k d no_members p q = or_from _ _ p refl
 members_have_float-put k d (member l e ms) p q =
-    let parts = both (has_float e) (members_have_float ms) q in
-    members_have_float-match_ordering _ (member k d (member l e ms)) (member l d ms) (member l e (put k d ms)) (neither _ _ p q) (neither _ _ p parts.1) (neither _ _ parts.0 (members_have_float-put k d ms p parts.1))
+    let parts = or_parts (has_float e) (members_have_float ms) q in
+    members_have_float-match_ordering _ (member k d (member l e ms)) (member l d ms) (member l e (put k d ms)) (or_from _ _ p q) (or_from _ _ p parts.1) (or_from _ _ parts.0 (members_have_float-put k d ms p parts.1))
 
 abbrev pub HasNoFloat : Option Data → Type 0
 HasNoFloat None = ⊤
@@ -101,7 +94,7 @@ items_depth-items_of (d ∷ ds) n h = omega (arith, h 0 d (omega arith), items_d
 
 pub items_have_float-items_of : (ds : List Data) → All (λ d. has_float d ≡ false) ds → items_have_float (items_of ds) ≡ false
 items_have_float-items_of [] h = refl
-items_have_float-items_of (d ∷ ds) h = neither _ _ (h 0 d (omega arith)) (items_have_float-items_of ds (all_later (λ e. has_float e ≡ false) d ds h))
+items_have_float-items_of (d ∷ ds) h = or_from _ _ (h 0 d (omega arith)) (items_have_float-items_of ds (all_later (λ e. has_float e ≡ false) d ds h))
 
 -- ---- texts, codes and the parts of requests
 

@@ -7,7 +7,7 @@ use Rattle.serde_json.specs.Find.{as_str, as_array, as_object}
 use Rattle.serde_json.specs.View.{view, items_of, items_view}
 use Rattle.serde_json.specs.declared.value.Value.{Value}
 use Rattle.xds_resource.specs.declared.refusal.Refusal.{Refusal}
-use Rattle.xds_json.specs.Spelling.{IsObject, IsOrDefault, Reads}
+use Rattle.xds_json.specs.Spelling.{IsObject, IsOrDefault, Reads, IsJson}
 
 -- where one item is no text, the items are no texts
 pub no_texts : (vs : List Value) (i : ℕ) (d : Value) → i < length vs → as_str (view (get_or vs i d)) ≡ None → (texts : List (List ℕ)) → map view vs ≡ map string texts → ⊥
@@ -67,10 +67,6 @@ Reads-refused P Q view part_view (Ok x) part e failed part_failed h to = absurd 
 Reads-refused P Q view part_view (Err f) part e failed part_failed h to =
     λ other. let k = (rw part_failed at h) (rw (← failed) other) in (failed ∙ k.0, λ y fits. let z = to y fits in k.1 z.0 z.1)
 
-pub none_left : {A : Type 0} (xs : List A) → length xs ≡ 0 → xs ≡ []
-none_left [] e = refl
-none_left (x ∷ xs) e = absurd (omega arith)
-
 -- one more pair of items
 pub AllZip-map-more : {A B C : Type 0} (R : A → C → Type 0) (f : B → C) (xs : List A) (ys : List B) (x : A) (y : B) → AllZip R xs (map f ys) → R x (f y) → AllZip R (xs ++ x ∷ []) (map f (ys ++ y ∷ []))
 AllZip-map-more R f [] [] x y h is = (is, tt)
@@ -117,3 +113,7 @@ no_objects (v ∷ vs) (suc i) d below other all = no_objects vs i d (omega arith
 pub map-twice : {A B C : Type 0} (f : A → B) (g : B → C) (xs : List A) → map (λ x. g (f x)) xs ≡ map g (map f xs)
 map-twice f g [] = refl
 map-twice f g (x ∷ xs) = ap (λ ys. g (f x) ∷ ys) (map-twice f g xs)
+
+-- a text reads as one value
+pub one_value : (json : List ℕ) (d e : Data) → IsJson json d → IsJson json e → d ≡ e
+one_value json d e p q = let same : Some d ≡ Some e = sym p.1 ∙ q.1 in cc

@@ -11,13 +11,12 @@ use Rattle.std.specs.BTreeMap.{insert_entry, is_at}
 use Rattle.std.specs.FinMap as finmap
 use Rattle.std.specs.FinMap.Entries.{by_order, is_sorted-put}
 use Rattle.std.proofs.lemmas.Cmp.{nat_list_cmp_total}
-use Rattle.std.proofs.lemmas.List.{length-map}
+use Rattle.std.proofs.lemmas.List.{length-map, nil_from_length}
 use Rattle.serde_json.specs.Data.{Data, null, boolean, number, string, array, object, Members, member, put}
 use Rattle.serde_json.specs.Find.{as_str}
 use Rattle.serde_json.specs.View.{view, members_view}
 use Rattle.serde_json.proofs.Views.{Entry}
 use Rattle.xds_resource.specs.Writes.{text_cmp}
-use Rattle.xds_json.proofs.Lists.{none_left}
 use Rattle.xds_json.specs.Versions.{VersionMap, pairs_of, text_members, versions_data, pairs_data}
 
 abbrev pub Pair : Type 0
@@ -55,7 +54,7 @@ from_sorted-insert_entry es fs k v name version is named told h =
     ∙ sym (finmap.entries-insert nat_list_cmp_total (finmap.from_sorted (pairs_of es)) name version))
 
 pub entries-empty : finmap.entries {X = List ℕ} {R = text_cmp} finmap.empty ≡ []
-entries-empty = none_left _ (sym (finmap.len-entries finmap.empty) ∙ finmap.len-empty text_cmp (List ℕ))
+entries-empty = nil_from_length _ (sym (finmap.len-entries finmap.empty) ∙ finmap.len-empty text_cmp (List ℕ))
 
 pub from_sorted-empty : (es : List Pair) → es ≡ [] → finmap.from_sorted {R = text_cmp} (pairs_of es) ≡ finmap.empty
 from_sorted-empty es e = finmap.same_entries_map _ _ (ap (λ fs. finmap.entries (finmap.from_sorted {R = text_cmp} (pairs_of fs))) e ∙ finmap.entries-from_sorted text_cmp [] tt ∙ sym entries-empty)
@@ -71,7 +70,7 @@ pub versions_data-some : (es : List Pair) (m : VersionMap) → finmap.from_sorte
 versions_data-some es m is h some = ap pairs_data (entries_are es m is h) ∙ pairs_data-some (pairs_of es) (λ none. some (sym (length-map es _) ∙ none))
 
 pub versions_data-none : (es : List Pair) (m : VersionMap) → finmap.from_sorted (pairs_of es) ≡ m → Rises (pairs_of es) → length es ≡ 0 → versions_data m ≡ None
-versions_data-none es m is h none = ap pairs_data (entries_are es m is h ∙ ap pairs_of (none_left es none))
+versions_data-none es m is h none = ap pairs_data (entries_are es m is h ∙ ap pairs_of (nil_from_length es none))
 
 -- ---- look-ups and copies
 

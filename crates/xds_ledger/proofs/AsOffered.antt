@@ -80,18 +80,6 @@ accepted_is whole sent b d some is =
     ∙ accept_step (was_touched sent q) whole (finmap.get sent.offer q) (finmap.get b q)
     ∙ sym (accepted_by_name whole sent b q))
 
--- once f was put at each name that one more request touched
-again_at : (c s : Option (Option Entry)) → option_or c (option_or c s) ≡ option_or c s
-again_at None s = refl
-again_at (Some x) s = refl
-
-pub put_further : (any here : Bool) (c s : Option (Option Entry))
-    → (if here then option_or c (if any then option_or c s else s) else (if any then option_or c s else s)) ≡ (if any || here then option_or c s else s)
-put_further true true c s = again_at c s
-put_further true false c s = refl
-put_further false true c s = refl
-put_further false false c s = refl
-
 -- ---- an account
 
 -- rule: accept-reject

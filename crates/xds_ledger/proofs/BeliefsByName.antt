@@ -1,5 +1,6 @@
 -- Beliefs, name by name.
 use Rattle.std.proofs.Common.{◌≡◌, ℕ, List, ◌++◌, Bool, true, false, cond, ◌||◌, ◌&&◌, not, Option, Some, None, sym, ap, ◌∙◌}
+use Rattle.std.proofs.Math.Bool.{and-false}
 use Rattle.std.specs.Prelude.{is_some, if◌then◌else◌}
 use Rattle.std.specs.FinMap as finmap
 use Rattle.std.specs.FinSet as set
@@ -11,7 +12,6 @@ use Rattle.xds_ledger.specs.declared.entry.Entry.TheVariants.{Told, Unsure}
 use Rattle.xds_ledger.specs.declared.entry.Due.{Due}
 use Rattle.xds_ledger.specs.Believing.{was_touched, believed_accepted, believed_touched, believed_taken}
 use Rattle.xds_ledger.specs.BeliefLaws.{AcceptedByName, TakenByName, UntouchedKeepsBelief, TouchedIsNotTold}
-use Rattle.xds_interest.proofs.Choices.{and-false}
 
 accepted_absent : (whole touched : Bool) (o : Option Due) (e : Option Entry) → o ≡ None → e ≡ None → believed_accepted whole touched o e ≡ None
 accepted_absent whole touched o e unsaid unheld = (λ i. believed_accepted whole touched (unsaid i) (unheld i)) ∙ cond_same (whole && not touched) None

@@ -89,13 +89,13 @@ get-changed_since : (h : Holdings) (mark : ℕ) (name : List ℕ) → finmap.get
 get-changed_since h mark name =
     finmap.get-retain_keys h.latest (is_since h mark) name (λ x tied. ap (is_since h mark) (sym (text_cmp-IsAntisymmetric name x tied)))
 
-again : (o : Option ℕ) → option_and_then (λ number. Some number) o ≡ o
-again None = refl
-again (Some k) = refl
+pub number_again : (o : Option ℕ) → option_and_then (λ number. Some number) o ≡ o
+number_again None = refl
+number_again (Some k) = refl
 
 get-refreshed : (h : Holdings) (l : Listed) (name : List ℕ) → finmap.get (refreshed h l).names name ≡ option_or (finmap.get l.names name) (cond (is_since h l.mark name) (finmap.get h.latest name) None)
 get-refreshed h l name =
-    get-put_all (λ name number. Some number) (changed_since h l.mark) l.names name ∙ (λ i. option_or (again (finmap.get l.names name) i) (get-changed_since h l.mark name i))
+    get-put_all (λ name number. Some number) (changed_since h l.mark) l.names name ∙ (λ i. option_or (number_again (finmap.get l.names name) i) (get-changed_since h l.mark name i))
 
 some_since : (mark : ℕ) (o : Option ℕ) → is_some (cond (option_map_or (nat_lt mark) o false) o None) ≡ option_map_or (nat_lt mark) o false
 some_since mark None = refl
@@ -222,7 +222,7 @@ tidied_keeps_sending v t s h b old new (Err e) is same low = keeps_itself old ne
 -- a copy, name by name
 pub copied : (m : Latest) → put_all (λ name number. Some number) finmap.empty (finmap.entries m) ≡ m
 copied m =
-    same_names _ m (λ q. get-put_all (λ name number. Some number) finmap.empty m q ∙ (λ i. option_or (again (finmap.get m q) i) (finmap.get-empty text_cmp q i)) ∙ or_none (finmap.get m q))
+    same_names _ m (λ q. get-put_all (λ name number. Some number) finmap.empty m q ∙ (λ i. option_or (number_again (finmap.get m q) i) (finmap.get-empty text_cmp q i)) ∙ or_none (finmap.get m q))
 
 -- what a walk from nothing found is what changed since
 found_all : (o : Option ℕ) (before : Option ℕ) (b : Bool) → before ≡ None → (if b then option_or o before else before) ≡ cond b o None

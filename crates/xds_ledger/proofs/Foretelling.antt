@@ -1,9 +1,10 @@
 -- What is known of an unanswered response: once it is sent, at later holdings, once names were touched, and once it is accepted.
 use Rattle.std.proofs.Common.{◌≡◌, ℕ, ◌≤◌, List, [], ◌∷◌, ◌||◌, ◌&&◌, not, Bool, true, false, Option, Some, None, refl, sym, ap, subst, ◌∙◌}
 use Rattle.std.specs.Prelude.{bytes_eq, if◌then◌else◌, is_some, option_map, IfSome}
-use Rattle.std.specs.Option.{option_or, option_and_then, option_map_or}
+use Rattle.std.specs.Option.{option_and_then, option_map_or}
 use Rattle.std.specs.FinMap as finmap
 use Rattle.std.proofs.lemmas.List.Folds.{list_any-append}
+use Rattle.std.proofs.Math.Bool.{or-false}
 use Rattle.xds_resource.specs.declared.types.TypeName.{TypeName}
 use Rattle.xds_resource.proofs.NameMaps.{bytes_eq_same}
 use Rattle.xds_interest.specs.Interests.{Selection}
@@ -24,7 +25,7 @@ use Rattle.xds_ledger.specs.Lists.{Books, IsForetold, Foretells, Fits, FitsNext,
 use Rattle.xds_ledger.specs.BookLaws.{SentBooksFit, LaterBooksFit, RefreshedBooksFit, PrunedBooksFit, AcceptanceKeepsFitting}
 use Rattle.xds_ledger.proofs.ByName.{offer_says_it}
 use Rattle.xds_ledger.proofs.BeliefsByName.{accepted_by_name, untouched_keeps_belief}
-use Rattle.xds_ledger.proofs.Made.{resumed_by_name}
+use Rattle.xds_ledger.proofs.Made.{resumed_by_name, resumed_at}
 use Rattle.xds_ledger.proofs.Later.{past_more}
 use Rattle.xds_ledger.proofs.Fitting.{later_holdings_fit, refreshed_list_fits, pruned_list_fits}
 use Rattle.xds_ledger.proofs.Choosing.{first_false, le-itself, le-onward, second_false}
@@ -135,25 +136,18 @@ looked_foretells v t s h a l new keeps known =
 
 -- ---- a request that doesn't answer
 
-or_false : (b : Bool) → (b || false) ≡ b
-or_false true = refl
-or_false false = refl
-
 -- a name that wasn't touched, by a touch more either
 touched_neither : (sent : Sent) (touch : Touch) (name : List ℕ) → was_touched (touched_since sent touch) name ≡ false → (was_touched sent name ≡ false) × (touches touch name ≡ false)
 touched_neither sent touch name e =
     let both : (was_touched sent name || touches touch name) ≡ false =
-    ap (λ b. was_touched sent name || b) (sym (or_false (touches touch name))) ∙ sym (list_any-append (λ t. touches t name) sent.touched (touch ∷ [])) ∙ e in
+    ap (λ b. was_touched sent name || b) (sym (or-false (touches touch name))) ∙ sym (list_any-append (λ t. touches t name) sent.touched (touch ∷ [])) ∙ e in
     (first_false (was_touched sent name) (touches touch name) both, second_false (was_touched sent name) (touches touch name) both)
-
-unsaid : (o : Option (List ℕ)) (e : Option Entry) → o ≡ None → option_or (option_map Told o) e ≡ e
-unsaid o e is = ap (λ x. option_or (option_map Told x) e) is
 
 -- a name that a request neither touches nor says a version of
 left_alone : (names : Names) (b : Beliefs) (q : List ℕ) → touches names.touched q ≡ false → finmap.get names.versions q ≡ None → finmap.get (beliefs_after names b) q ≡ finmap.get b q
 left_alone names b q untouched none =
     resumed_by_name names.versions (beliefs_taken names.interest names.touched names.mentioned b) q
-    ∙ unsaid (finmap.get names.versions q) (finmap.get (beliefs_taken names.interest names.touched names.mentioned b) q) none
+    ∙ resumed_at (finmap.get names.versions q) (finmap.get (beliefs_taken names.interest names.touched names.mentioned b) q) none
     ∙ untouched_keeps_belief names.interest names.touched names.mentioned b q untouched
 
 -- the response that is unanswered once a request was taken

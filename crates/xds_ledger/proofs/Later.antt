@@ -3,6 +3,7 @@ use Rattle.std.proofs.Common.{◌≡◌, ◌≢◌, inl, inr, ℕ, ◌+◌, ◌�
 use Rattle.std.specs.Prelude.{IsSomeAnd}
 use Rattle.std.specs.FinMap as finmap
 use Rattle.std.proofs.lemmas.Cmp.{nat_list_cmp_total}
+use Rattle.std.proofs.lemmas.Option.{none-some}
 use Rattle.xds_resource.specs.Writes.{StampedWrite}
 use Rattle.xds_resource.proofs.WriteTies.{text_cmp-IsAntisymmetric}
 use Rattle.xds_catalogue.specs.Holdings.{Holdings, IsCatalogue}
@@ -38,9 +39,6 @@ later_on a b c first second = record {
 
 -- ---- one write that changes an entry
 
-none_or_some : {X : Type 0} (x : X) → Some x ≡ None → ⊥
-none_or_some x is = absurd cc
-
 too_great : (c mark : ℕ) → mark ≤ c → c + 1 ≤ mark → ⊥
 too_great c mark low high = omega arith
 
@@ -49,7 +47,7 @@ new_number o c mark is low there = too_great c mark low (subst (λ p. IsSomeAnd 
 
 other_past : (h : Holdings) (w : StampedWrite) (mark : ℕ) (name : List ℕ) → mark ≤ h.changes → IsPast (changed h w) mark name → w.name ≢ name
 other_past h w mark name low (inl absent) named = elim (get-inserted nat_list_cmp_total text_cmp-IsAntisymmetric h.entries w.name w name) [
-  | inl (here, has) ↦ none_or_some w (sym has ∙ absent)
+  | inl (here, has) ↦ none-some w (sym absent ∙ has)
   | inr (other, has) ↦ other named
 ]
 other_past h w mark name low (inr there) named = elim (get-inserted nat_list_cmp_total text_cmp-IsAntisymmetric h.latest w.name (h.changes + 1) name) [

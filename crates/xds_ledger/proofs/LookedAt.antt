@@ -8,20 +8,18 @@ use Rattle.xds_resource.specs.Writes.{StampedWrite}
 use Rattle.xds_catalogue.specs.Holdings.{Holdings, IsNumbered}
 use Rattle.xds_catalogue.specs.Next.{NoneAfter, IsNextChange}
 use Rattle.xds_ledger.specs.Listed.{is_since}
+use Rattle.xds_ledger.proofs.Walking.{never_both}
 
 -- P holds of each name whose latest change has a number above the mark and up to this one.
 abbrev pub LookedAt : (List ℕ → Type 0) → Holdings → ℕ → ℕ → Type 0
 LookedAt P h mark after = (name : List ℕ) (k : ℕ) → finmap.get h.latest name ≡ Some k → mark < k → k ≤ after → P name
-
-not_between : (mark k : ℕ) → mark < k → k ≤ mark → ⊥
-not_between mark k low high = omega arith
 
 same_number : (k number : ℕ) → k ≤ number → number ≤ k → k ≡ number
 same_number k number low high = omega arith
 
 module _ (P : List ℕ → Type 0) (h : Holdings) (mark : ℕ) where
   pub none_looked_at : LookedAt P h mark mark
-  none_looked_at name k is from none = absurd (not_between mark k from none)
+  none_looked_at name k is from none = absurd (never_both mark k from none)
 
   pub one_looked_at : (after number : ℕ) (w : StampedWrite) → IsNumbered h → IsNextChange h after number w → P w.name → LookedAt P h mark after → LookedAt P h mark number
   one_looked_at after number w numbered next here before name k is from low =

@@ -8,6 +8,7 @@ use Rattle.xds_resource.specs.Writes.{text_cmp}
 use Rattle.xds_resource.specs.Names.{put_all, put_each}
 use Rattle.xds_resource.proofs.NameMaps.{has_text, same_names, get-tabulated, in_neither, absent_key, cond_same}
 use Rattle.xds_resource.proofs.MadeMaps.{get-put_all, get-put_each}
+use Rattle.xds_resource.proofs.BoolsAndLists.{option_or-None}
 use Rattle.xds_interest.specs.Interests.{Selection, reaches}
 use Rattle.xds_interest.specs.Touches.{Touch, touches}
 use Rattle.xds_interest.proofs.Texts.{contains-from_texts}
@@ -19,17 +20,13 @@ use Rattle.xds_ledger.specs.Believing.{Sent, was_touched, believed_accepted, bel
 use Rattle.xds_ledger.specs.Parts.{told_unless_touched, kept_beside, left_by, made_unsure, told_as}
 use Rattle.xds_ledger.proofs.BeliefsByName.{accepted_by_name, taken_by_name}
 
-pub or_none : {X : Type 0} (o : Option X) → option_or o None ≡ o
-or_none None = refl
-or_none (Some x) = refl
-
 accepted_parts : (whole touched : Bool) (o : Option Due) (e : Option Entry)
     → option_or (option_and_then (λ x. if is_some o || (whole && not touched) then None else Some x) e) (option_or (option_and_then (told_unless_touched touched) o) None)
     ≡ believed_accepted whole touched o e
 accepted_parts whole touched None None = sym (cond_same (whole && not touched) None)
-accepted_parts whole touched None (Some x) = or_none (if whole && not touched then None else Some x)
-accepted_parts whole touched (Some d) None = or_none (told_unless_touched touched d)
-accepted_parts whole touched (Some d) (Some x) = or_none (told_unless_touched touched d)
+accepted_parts whole touched None (Some x) = option_or-None (if whole && not touched then None else Some x)
+accepted_parts whole touched (Some d) None = option_or-None (told_unless_touched touched d)
+accepted_parts whole touched (Some d) (Some x) = option_or-None (told_unless_touched touched d)
 
 -- what the names of an accepted response leave
 abbrev pub told_by : Sent → Beliefs
@@ -79,7 +76,10 @@ told_parts : (o : Option (List ℕ)) (e : Option Entry) → option_or (option_an
 told_parts None e = refl
 told_parts (Some v) e = refl
 
-resumed_absent : (o : Option (List ℕ)) (e : Option Entry) → o ≡ None → e ≡ None → option_or (option_map Told o) e ≡ None
+pub resumed_at : (o : Option (List ℕ)) (e : Option Entry) → o ≡ None → option_or (option_map Told o) e ≡ e
+resumed_at o e unsaid = ap (λ x. option_or (option_map Told x) e) unsaid
+
+pub resumed_absent : (o : Option (List ℕ)) (e : Option Entry) → o ≡ None → e ≡ None → option_or (option_map Told o) e ≡ None
 resumed_absent o e unsaid unheld = (λ i. option_or (option_map Told (unsaid i)) (unheld i))
 
 -- what is believed once a client said which versions it holds, name by name

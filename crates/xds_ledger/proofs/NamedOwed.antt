@@ -1,6 +1,7 @@
 -- That without the star an owed name is an explicit one, or one of which something is told or differs; and what is found by going
 -- over these.
 use Rattle.std.proofs.Common.{◌≡◌, ℕ, List, [], ◌∷◌, Bool, true, false, cond, ◌&&◌, ◌||◌, Option, Some, None, refl, sym, ap, subst, ◌∙◌}
+use Rattle.std.proofs.lemmas.Bool.{and_parts}
 use Rattle.std.specs.Prelude.{is_some, unwrap_or, if◌then◌else◌, IsSome}
 use Rattle.std.specs.Option.{option_or, option_and_then, option_map_or}
 use Rattle.std.specs.List.{list_any}
@@ -120,13 +121,9 @@ some_named p (n ∷ ns) some = at (p n) refl (some_named p ns) some
     at true here later some = (n, here)
     at false here later some = later some
 
-second_true : (a b : Bool) → (a && b) ≡ true → b ≡ true
-second_true true b is = is
-second_true false b is = absurd cc
-
 -- a name of which something is owed since is owed something
 pub owed_if_since : (v : VariantName) (t : TypeName) (s : Selection) (h : Holdings) (b : Beliefs) (mark : ℕ) → ((name : List ℕ) × (is_owed_since v t s h b mark name ≡ true)) → (name : List ℕ) × (is_owed v t s h.entries b name ≡ true)
-owed_if_since v t s h b mark one = (one.0, second_true (is_since h mark one.0) (is_owed v t s h.entries b one.0) one.1)
+owed_if_since v t s h b mark one = (one.0, (and_parts (is_since h mark one.0) (is_owed v t s h.entries b one.0) one.1).1)
 
 told_fails : (p : List ℕ → Bool) (o : Option Offer) (q : List ℕ) (d : Due) → told_at o q ≡ Some d → list_any (λ e. p e.0) (told_entries o) ≡ false → p q ≡ false
 told_fails p None q d there none = absurd cc

@@ -7,12 +7,14 @@ use Rattle.std.specs.List.{filter}
 use Rattle.std.specs.FinMap as finmap
 use Rattle.std.specs.FinMap.Entries.{below_all, is_sorted}
 use Rattle.std.proofs.lemmas.Map.Text.{is_eq-slice_cmp}
+use Rattle.std.proofs.lemmas.Bool.{cond-false}
 use Rattle.xds_resource.specs.declared.refusal.Refusal.{Refusal}
 use Rattle.xds_resource.specs.declared.types.TypeName.{TypeName}
 use Rattle.xds_resource.specs.Writes.{StampedWrite, text_cmp, version_of}
 use Rattle.xds_resource.specs.Names.{put_some, put_all}
 use Rattle.xds_resource.proofs.NameMaps.{same_names, bytes_eq_same, bytes_eq_tells}
-use Rattle.xds_resource.proofs.MadeMaps.{get-put_all, find_below, holds_first, holds_second}
+use Rattle.xds_resource.proofs.MadeMaps.{get-put_all, find_below}
+use Rattle.xds_resource.proofs.BoolsAndLists.{holds_first, holds_second, option_or-None}
 use Rattle.xds_interest.specs.Interests.{Selection, covers}
 use Rattle.xds_catalogue.specs.Holdings.{Holdings, Entries, IsCatalogue, IsNumbered}
 use Rattle.xds_catalogue.specs.Content.{is_live, is_shown, content}
@@ -108,20 +110,16 @@ whole_of v t s m b (Err e) whole made = tt
 
 -- ---- what is owed, of the listed names and of those that changed since
 
-or_none : {X : Type 0} (o : Option X) → option_or o None ≡ o
-or_none None = refl
-or_none (Some x) = refl
-
 or_itself : {X : Type 0} (o : Option X) → option_or o o ≡ o
 or_itself None = refl
 or_itself (Some x) = refl
 
 told_at : (told : Option Due) (o : Option ℕ) (since : Bool) → (is_some o ≡ false → since ≡ false → told ≡ None)
     → (if since then option_or told (option_or (option_and_then (λ number. told) o) None) else option_or (option_and_then (λ number. told) o) None) ≡ told
-told_at told None true none = or_none told
+told_at told None true none = option_or-None told
 told_at told None false none = sym (none refl refl)
-told_at told (Some k) true none = ap (option_or told) (or_none told) ∙ or_itself told
-told_at told (Some k) false none = or_none told
+told_at told (Some k) true none = ap (option_or told) (option_or-None told) ∙ or_itself told
+told_at told (Some k) false none = option_or-None told
 
 due_at : (v : VariantName) (t : TypeName) (s : Selection) (h : Holdings) (b : Beliefs) (l : Listed) (q : List ℕ) (due : Offer)
     → due ≡ put_all (λ name number. told_of v t s h.entries b name) finmap.empty (finmap.entries l.names)
@@ -129,10 +127,6 @@ due_at : (v : VariantName) (t : TypeName) (s : Selection) (h : Holdings) (b : Be
 due_at v t s h b l q due is =
     ap (λ (o : Offer). finmap.get o q) is ∙ get-put_all (λ name number. told_of v t s h.entries b name) finmap.empty l.names q
     ∙ ap (option_or (option_and_then (λ number. told_of v t s h.entries b q) (finmap.get l.names q))) (finmap.get-empty text_cmp q)
-
-untold : (o : Option Due) (b : Bool) → b ≡ false → (if b then o else None) ≡ None
-untold o true is = absurd cc
-untold o false is = refl
 
 -- rule: whole-response
 -- where a list suffices, that is the offer of a response that isn't the whole
@@ -143,5 +137,5 @@ partial_offer_made v t s h b l mark due said partly numbered fits from is made =
     same_names _ _ (λ q. made q
     ∙ (λ i. if is_since h (from i) q then option_or (told_of v t s h.entries b q) (due_at v t s h b l q due is i) else due_at v t s h b l q due is i)
     ∙ told_at (told_of v t s h.entries b q) (finmap.get l.names q) (is_since h l.mark q)
-    (λ out unchanged. untold (owed_of s h.entries b q) (is_owed v t s h.entries b q) (unowed_else v t s h b l q numbered fits out unchanged))
+    (λ out unchanged. cond-false (is_owed v t s h.entries b q) (owed_of s h.entries b q) None (unowed_else v t s h b l q numbered fits out unchanged))
     ∙ sym (offer_says_it v t s h.entries b q ∙ ap (λ w. if w then option_map Stated (present s h.entries q) else told_of v t s h.entries b q) partly))

@@ -3,7 +3,6 @@ use Rattle.std.proofs.Common.{◌≡◌, ℕ, Bool, true, false, ◌&&◌, not, 
 use Rattle.std.specs.Prelude.{if◌then◌else◌, is_some, is_none, MatchOption, ◌+◌}
 use Rattle.std.specs.Option.{option_map_or}
 use Rattle.xds_resource.specs.declared.types.TypeName.{TypeName}
-use Rattle.xds_resource.proofs.NameMaps.{none_by_is_some}
 use Rattle.xds_catalogue.specs.Holdings.{Entries}
 use Rattle.xds_ledger.specs.declared.variant.VariantName.{VariantName}
 use Rattle.xds_ledger.specs.Offers.{Offer, offer}
@@ -18,15 +17,6 @@ has_polled v t m respond before count response after count_after o sends made le
     subst (λ x. MatchOption x ((Some response ≡ None) × (after ≡ before) × (count_after ≡ count))
     (λ o. (Some response ≡ Some (respond o (count + 1))) × (after ≡ send before o (count + 1)) × (count_after ≡ count + 1)))
     (sym sends) (ap Some made, left, counted)
-
--- a poll that doesn't
-pub has_not_polled : {R : Type 0} (v : VariantName) (t : TypeName) (m : Entries) (respond : Offer → ℕ → R) (before : Session) (count : ℕ) → is_some (sending v t before m) ≡ false
-    → HasPolled v t m respond before count None before count
-has_not_polled {R} v t m respond before count none =
-    let answer : Option R = None in
-    subst (λ x. MatchOption x ((answer ≡ None) × (before ≡ before) × (count ≡ count))
-    (λ o. (answer ≡ Some (respond o (count + 1))) × (before ≡ send before o (count + 1)) × (count ≡ count + 1)))
-    (sym (none_by_is_some (sending v t before m) none)) (refl, refl, refl)
 
 sent_if : {X : Type 0} (o : X) (begun sends : Bool) → is_some (if begun then (if sends then Some o else None) else None) ≡ true → (if begun then (if sends then Some o else None) else None) ≡ Some o
 sent_if o true true some = refl

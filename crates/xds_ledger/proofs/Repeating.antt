@@ -3,7 +3,7 @@ use Rattle.std.proofs.Common.{◌≡◌, ℕ, List, [], ◌∷◌, Bool, true, f
 use Rattle.std.specs.Prelude.{bytes_eq, is_some, option_map, if◌then◌else◌}
 use Rattle.std.specs.List.{list_all}
 use Rattle.std.specs.FinMap as finmap
-use Rattle.std.proofs.lemmas.Bool.{false_from_ne_true, true≢false}
+use Rattle.std.proofs.lemmas.Bool.{false_from_ne_true, true≢false, cond-false}
 use Rattle.std.proofs.lemmas.Map.Text.{is_eq-slice_cmp}
 use Rattle.xds_resource.specs.declared.types.TypeName.{TypeName}
 use Rattle.xds_resource.specs.Writes.{text_cmp}
@@ -21,6 +21,7 @@ use Rattle.xds_ledger.specs.Repeats.{same_saying, still_says, has_what_is_said}
 use Rattle.xds_ledger.proofs.ByName.{present_absent, offer_says_it}
 use Rattle.xds_ledger.proofs.Fitting.{none_at_first, past_if, unowed_else}
 use Rattle.xds_ledger.proofs.SameOffers.{same_due_itself, same_due_tells, offers_are_told_apart}
+use Rattle.xds_ledger.proofs.Choosing.{second_false}
 use Rattle.xds_interest.proofs.Choices.{and_first, and_second}
 
 same_itself : (o : Option Due) → same_saying o o ≡ true
@@ -56,10 +57,6 @@ pub one_fails : {X : Type 0} (p : List ℕ → Bool) (es : List (List ℕ × X))
 one_fails p [] none = absurd cc
 one_fails p (e ∷ es) none = fails_first p e es (p e.0) refl none (one_fails p es)
 
-neither_second : (a b : Bool) → (a || b) ≡ false → b ≡ false
-neither_second true b e = absurd cc
-neither_second false b e = e
-
 module _ (refused : Offer) (v : VariantName) (t : TypeName) (s : Selection) (m : Entries) (b : Beliefs) where
   -- rule: refused-offer
   -- where they agree of each name, they are the same
@@ -82,17 +79,13 @@ module _ (refused : Offer) (v : VariantName) (t : TypeName) (s : Selection) (m :
   -- rule: refused-offer
   -- where a name is to be said that the offer doesn't speak of, they differ
   pub differs_at : (name : List ℕ) → has_what_is_said refused v t s m b name ≡ false → same_offer (offer v t s m b) refused ≡ false
-  differs_at name unsaid = differs_where name (neither_second (is_some (finmap.get refused name)) _ unsaid)
+  differs_at name unsaid = differs_where name (second_false (is_some (finmap.get refused name)) _ unsaid)
 
   -- what the entries of a map tell of that
   pub differs_unsaid : {X : Type 0} (n : finmap.FinMap text_cmp X) → list_all (λ e. has_what_is_said refused v t s m b e.0) (finmap.entries n) ≡ false → false ≡ same_offer (offer v t s m b) refused
   differs_unsaid n apart = let one = one_fails (has_what_is_said refused v t s m b) (finmap.entries n) apart in sym (differs_at one.0 one.1)
 
 -- ---- the names that aren't looked at
-
-absent : (o : Option Due) (b : Bool) → b ≡ false → (if b then o else None) ≡ None
-absent o true is = absurd cc
-absent o false is = refl
 
 -- a whole response says nothing of a name without an entry in the catalogue, and another nothing of a name that is owed nothing
 silent : (v : VariantName) (t : TypeName) (s : Selection) (h : Holdings) (b : Beliefs) (l : Listed) (q : List ℕ) (whole : Bool) → is_whole v t ≡ whole → IsNumbered h → Fits v t s h b l → is_listed l q ≡ false
@@ -102,7 +95,7 @@ silent v t s h b l q true whole numbered fits out unchanged =
     ∙ ap (option_map Stated) (present_absent s h.entries q (none_at_first h q (past_if h 0 q numbered unchanged)))
 silent v t s h b l q false partly numbered fits out unchanged =
     ap (λ w. if w then option_map Stated (present s h.entries q) else if is_owed v t s h.entries b q then owed_of s h.entries b q else None) partly
-    ∙ absent (owed_of s h.entries b q) (is_owed v t s h.entries b q) (unowed_else v t s h b l q numbered fits out unchanged)
+    ∙ cond-false (is_owed v t s h.entries b q) (owed_of s h.entries b q) None (unowed_else v t s h b l q numbered fits out unchanged)
 
 module _ (v : VariantName) (t : TypeName) (s : Selection) (h : Holdings) (b : Beliefs) (l : Listed) (refused : Offer) (mark : ℕ) where
   abbrev test : List ℕ → Bool

@@ -8,8 +8,9 @@ use Rattle.std.specs.FinMap as finmap
 use Rattle.std.specs.FinMap.Entries.{below_all, is_sorted}
 use Rattle.std.proofs.lemmas.Map.Text.{is_eq-slice_cmp}
 use Rattle.xds_resource.specs.Writes.{text_cmp}
-use Rattle.xds_resource.proofs.MadeMaps.{holds_first, holds_second, less_is_no_tie}
+use Rattle.xds_resource.proofs.MadeMaps.{less_is_no_tie}
 use Rattle.xds_resource.proofs.NameMaps.{bytes_eq_same, bytes_eq_tells, bytes_eq_swap, same_names}
+use Rattle.xds_resource.proofs.BoolsAndLists.{holds_first, holds_second}
 use Rattle.xds_ledger.specs.declared.entry.Due.{Due}
 use Rattle.xds_ledger.specs.declared.entry.Due.TheVariants.{Stated, Removed}
 use Rattle.xds_ledger.specs.Offers.{Offer, same_due, is_within, same_offer}

@@ -5,6 +5,7 @@ use Rattle.std.specs.List.{list_any}
 use Rattle.std.specs.Option.{option_map_or}
 use Rattle.std.specs.FinMap as finmap
 use Rattle.std.proofs.lemmas.Map.Text.{is_eq-slice_cmp}
+use Rattle.std.proofs.lemmas.Bool.{cond-false}
 use Rattle.xds_resource.specs.declared.types.TypeName.{TypeName}
 use Rattle.xds_resource.specs.Writes.{text_cmp}
 use Rattle.xds_resource.proofs.NameMaps.{bytes_eq_same, same_names}
@@ -44,13 +45,9 @@ some_entry : (o : Offer) (q : List ℕ) (es : List (List ℕ × Due)) → finmap
 some_entry o q [] none there = let never : false ≡ true = sym (ap (λ x. is_some x) (finmap.get-entries o q ∙ ap (finmap.find text_cmp q) none)) ∙ there in absurd cc
 some_entry o q (e ∷ es) is there = refl
 
-unsaid : (o : Option Due) (b : Bool) → b ≡ false → (if b then o else None) ≡ None
-unsaid o true e = absurd cc
-unsaid o false e = refl
-
 nothing_said : (t : TypeName) (s : Selection) (m : Entries) (b : Beliefs) → something_owed Delta t s m b ≡ false → offer Delta t s m b ≡ finmap.empty
 nothing_said t s m b none =
-    same_names _ _ (λ q. offer_says_it Delta t s m b q ∙ unsaid (owed_of s m b q) (is_owed Delta t s m b q) (nothing_owed Delta t s m b q none) ∙ sym (finmap.get-empty text_cmp q))
+    same_names _ _ (λ q. offer_says_it Delta t s m b q ∙ cond-false (is_owed Delta t s m b q) (owed_of s m b q) None (nothing_owed Delta t s m b q none) ∙ sym (finmap.get-empty text_cmp q))
 
 no_entry : (o : Offer) (es : List (List ℕ × Due)) → finmap.entries o ≡ es → o ≡ finmap.empty → list_any (λ e. true) es ≡ false
 no_entry o [] all none = refl

@@ -1,5 +1,6 @@
 -- What an accepted offer settles, and that sending commutes with taking.
 use Rattle.std.proofs.Common.{◌≡◌, ℕ, List, [], ◌∷◌, ◌++◌, Bool, true, false, ◌||◌, ◌&&◌, Option, Some, None, refl, sym, ap, subst, ◌∙◌}
+use Rattle.std.proofs.Math.Bool.{and-false}
 use Rattle.std.specs.Prelude.{bytes_eq, is_some, option_map, if◌then◌else◌}
 use Rattle.std.specs.Option.{option_map_or}
 use Rattle.std.specs.FinMap as finmap
@@ -19,7 +20,6 @@ use Rattle.xds_ledger.specs.Laws.{AcceptedOwesNothing, SendingCommutes, with_sen
 use Rattle.xds_ledger.proofs.Choosing.{none_passes}
 use Rattle.xds_ledger.proofs.ByName.{offer_says_it}
 use Rattle.xds_ledger.proofs.BeliefsByName.{accepted_by_name}
-use Rattle.xds_interest.proofs.Choices.{and-false}
 
 -- what was told at the version that is present is owed no more
 told_now : (version : List ℕ) → owed (Some (Told version)) (Some version) ≡ None

@@ -13,14 +13,11 @@ use Rattle.xds_catalogue.specs.Holdings.{Latest}
 use Rattle.xds_ledger.specs.Sharing.{base_names, over}
 use Rattle.xds_ledger.proofs.Overlaying.{no_entries}
 use Rattle.xds_ledger.proofs.SomethingOwed.{by_names, named_fails}
-
-again : (o : Option ℕ) → option_and_then (λ number. Some number) o ≡ o
-again None = refl
-again (Some k) = refl
+use Rattle.xds_ledger.proofs.Fitting.{number_again}
 
 pub get-over : (base : Option Latest) (added : Latest) (q : List ℕ) → finmap.get (over base added) q ≡ option_or (finmap.get added q) (finmap.get (base_names base) q)
 get-over base added q =
-    get-put_all (λ name number. Some number) (base_names base) added q ∙ ap (λ o. option_or o (finmap.get (base_names base) q)) (again (finmap.get added q))
+    get-put_all (λ name number. Some number) (base_names base) added q ∙ ap (λ o. option_or o (finmap.get (base_names base) q)) (number_again (finmap.get added q))
 
 -- where none was put since, they are those that are shared
 pub over_empty : (base : Option Latest) → over base finmap.empty ≡ base_names base

@@ -1,21 +1,22 @@
 -- That all of which a request may change what is owed is listed, and that the list then suffices.
 use Rattle.std.proofs.Common.{◌≡◌, inl, inr, ℕ, ◌≤◌, List, [], ◌∷◌, map, Bool, true, false, cond, ◌&&◌, ◌||◌, not, Option, Some, None, refl, sym, ap, subst, ◌∙◌, arith}
-use Rattle.std.specs.Prelude.{T, bytes_eq, is_some, option_map, if◌then◌else◌, IfSome}
-use Rattle.std.specs.Option.{option_or, option_map_or}
+use Rattle.std.specs.Prelude.{T, bytes_eq, is_some, if◌then◌else◌, IfSome}
+use Rattle.std.specs.Option.{option_map_or}
 use Rattle.std.specs.Ordering.{eq_by_cmp}
 use Rattle.std.specs.FinMap as finmap
 use Rattle.std.specs.FinSet as set
 use Rattle.std.proofs.lemmas.Map.Text.{is_eq-slice_cmp}
+use Rattle.std.proofs.lemmas.Bool.{or_right}
 use Rattle.xds_resource.specs.declared.types.TypeName.{TypeName}
 use Rattle.xds_resource.specs.Writes.{text_cmp}
-use Rattle.xds_resource.proofs.NameMaps.{has_text, has_text-keys, get-insert, bytes_eq_swap, none_by_is_some}
+use Rattle.xds_resource.proofs.NameMaps.{has_text, get-insert, bytes_eq_swap, absent_key}
 use Rattle.xds_interest.specs.Interests.{Selection, reaches}
 use Rattle.xds_interest.specs.Touches.{Touch}
 use Rattle.xds_interest.proofs.Texts.{contains-from_texts}
-use Rattle.xds_catalogue.specs.Holdings.{Holdings, Entries}
+use Rattle.xds_catalogue.specs.Holdings.{Holdings}
 use Rattle.xds_ledger.specs.declared.variant.VariantName.{VariantName}
 use Rattle.xds_ledger.specs.declared.entry.Entry.{Entry}
-use Rattle.xds_ledger.specs.declared.entry.Entry.TheVariants.{Told, Unsure}
+use Rattle.xds_ledger.specs.declared.entry.Entry.TheVariants.{Unsure}
 use Rattle.xds_ledger.specs.declared.entry.Due.{Due}
 use Rattle.xds_ledger.specs.Variants.{is_whole}
 use Rattle.xds_ledger.specs.Owed.{Beliefs, is_owed}
@@ -25,7 +26,7 @@ use Rattle.xds_ledger.specs.Listed.{Listed, is_listed, with_name, without_mark, 
 use Rattle.xds_ledger.proofs.Fitting.{none_at_first, unowed, same_owed}
 use Rattle.xds_ledger.proofs.Later.{past_more}
 use Rattle.xds_ledger.proofs.BeliefsByName.{accepted_by_name, taken_by_name}
-use Rattle.xds_ledger.proofs.Made.{resumed_by_name}
+use Rattle.xds_ledger.proofs.Made.{resumed_by_name, resumed_at}
 use Rattle.xds_ledger.specs.Ledgers.{Sent, Account, was_touched, believed_accepted, believed_touched, beliefs_taken, is_refused, answers, answered, Names, settled, touch, resume, taken, versions_of}
 use Rattle.xds_ledger.specs.Laws.{RequestKeepsFitting}
 use Rattle.xds_ledger.specs.Lists.{Books, Fits, FitsNext, IsForetold, Foretells, accepts, StaysPresent, IsPassedOver, ListsRequest, ListsNames, ListsNext, with_names, with_said, with_offer, with_all, with_changes, listed_after}
@@ -131,16 +132,13 @@ unsaid_if false pairs l last is = subst (λ o. IfSome o (λ m. (name : List ℕ)
     at [] (Some m) = λ name. ap (λ (h : finmap.FinMap text_cmp (List ℕ)). finmap.get h name) versions_of_none ∙ finmap.get-empty text_cmp name
     at (p ∷ ps) o = tt
 
-no_key : {X : Type 0} (m : finmap.FinMap text_cmp X) (q : List ℕ) → has_text (finmap.keys m) q ≡ false → finmap.get m q ≡ None
-no_key m q out = none_by_is_some (finmap.get m q) (sym (has_text-keys m q) ∙ out)
-
 out_of_offer : (a : Account) (accepting : Bool) (l : Listed) (q : List ℕ) (o : Option Sent) → a.sent ≡ o → is_listed (if accepting then option_map_or (λ sent. with_names l (finmap.keys sent.offer)) o l else l) q ≡ false
     → (accepting ≡ true → IfSome o (λ sent. finmap.get sent.offer q ≡ None)) × (is_listed l q ≡ false)
 out_of_offer a false l q o is out = (λ never. absurd cc, out)
 out_of_offer a true l q None is out = (λ _. tt, out)
 out_of_offer a true l q (Some sent) is out =
     let parts = out_of l (finmap.keys sent.offer) q out in
-    (λ _. no_key sent.offer q parts.0, parts.1)
+    (λ _. absent_key sent.offer q parts.0, parts.1)
 
 mark_offer : (accepting : Bool) (l : Listed) (o : Option Sent) → (if accepting then option_map_or (λ sent. with_names l (finmap.keys sent.offer)) o l else l).mark ≡ l.mark
 mark_offer false l o = refl
@@ -153,7 +151,7 @@ out_of_all a false mentioned l q out = (λ never. absurd cc, λ never. absurd cc
 out_of_all a true mentioned l q out =
     let second = out_of (with_names l (finmap.keys a.beliefs)) mentioned q out in
     let first = out_of l (finmap.keys a.beliefs) q second.1 in
-    (λ _. no_key a.beliefs q first.0, λ _. second.0, first.1)
+    (λ _. absent_key a.beliefs q first.0, λ _. second.0, first.1)
 
 mark_all : (a : Account) (all : Bool) (mentioned : List (List ℕ)) (l : Listed) → (with_all a all mentioned l).mark ≡ l.mark
 mark_all a false mentioned l = refl
@@ -265,13 +263,6 @@ settled_at v t a name false true (Some sent) unoffered unbelieved =
     accepted_by_name (is_whole v t) sent a.beliefs name
     ∙ kept_by (is_whole v t) (was_touched sent name) (finmap.get sent.offer name) (finmap.get a.beliefs name) (unoffered refl) unbelieved
 
-or_right : (a b : Bool) → b ≡ true → (a || b) ≡ true
-or_right true b is = refl
-or_right false b is = is
-
-resumed_at : (o : Option (List ℕ)) (e : Option Entry) → o ≡ None → option_or (option_map Told o) e ≡ e
-resumed_at o e is = ap (λ o. option_or (option_map Told o) e) is
-
 unmentioned_at : (reached mentioned : Bool) (before : Option Entry) → mentioned ≡ false → before ≡ None → believed_touched reached mentioned before ≡ None
 unmentioned_at true true before is none = absurd cc
 unmentioned_at true false before is none = ap (λ e. if is_some e then Some Unsure else None) none
@@ -360,13 +351,6 @@ fits_outside v name t s h inside now after beliefs named same held kept sending 
   list = subst (λ (a : Account). lists.Fits v t s h a.beliefs after.listed) (sym kept) (subst (λ b. lists.Fits v t s h b after.listed) held (subst (λ w. lists.Fits w t s h beliefs after.listed) named list));
   foretold = subst (λ (a : Account). Foretells v t s h a after.listed) (sym kept) (looked_foretells v t s h inside.account inside.listed after.listed sending (subst (λ (k : Books). Foretells v t s h k.account k.listed) (sym same) fits.foretold));
 }
-
--- the offer that is compared with the one that was refused last, as such a method sees both
-pub refused_inside : (v name : VariantName) (t : TypeName) (s : Selection) (m : Entries) (inside now : Books) (beliefs : Beliefs) (refused : Offer) (result : Bool) → name ≡ v → inside ≡ now → beliefs ≡ inside.account.beliefs
-    → inside.account.refused ≡ Some refused → result ≡ same_offer (offer name t s m beliefs) refused → result ≡ is_refused now.account (offer v t s m now.account.beliefs)
-refused_inside v name t s m inside now beliefs refused result named same held is compared =
-    compared ∙ (λ i. same_offer (offer (named i) t s m (held i)) refused) ∙ (λ i. option_map_or (same_offer (offer v t s m inside.account.beliefs)) (sym is i) false)
-    ∙ ap (λ (b : Books). is_refused b.account (offer v t s m b.account.beliefs)) same
 
 pub none_refused : (inside now : Books) (o : Offer) → inside ≡ now → inside.account.refused ≡ None → false ≡ is_refused now.account o
 none_refused inside now o same none = (λ i. option_map_or (same_offer o) (sym none i) false) ∙ ap (λ (b : Books). is_refused b.account o) same

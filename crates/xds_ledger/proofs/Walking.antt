@@ -24,26 +24,26 @@ pub record IsWalkedTo {X : Type 0} (h : Holdings) (mark last : ℕ) (f : List �
   pub onward : mark ≤ last
   pub found : (q : List ℕ) → Found mark last (finmap.get m q) (finmap.get before q) (option_or (f q) (finmap.get before q)) (finmap.get h.latest q)
 
-never_both : (mark k : ℕ) → mark < k → k ≤ mark → ⊥
+pub never_both : (mark k : ℕ) → mark < k → k ≤ mark → ⊥
 never_both mark k above below = omega arith
 
 none_yet : {X : Type 0} (mark : ℕ) (old wanted : Option X) (o : Option ℕ) → Found mark mark old old wanted o
 none_yet mark old wanted None = refl
 none_yet mark old wanted (Some k) = (λ _. refl, λ _. refl, λ above below. absurd (never_both mark k above below))
 
-onward_to : (mark last number : ℕ) → mark ≤ last → last < number → mark ≤ number
+pub onward_to : (mark last number : ℕ) → mark ≤ last → last < number → mark ≤ number
 onward_to mark last number before above = omega arith
 
-not_before : (mark last number : ℕ) → mark ≤ last → last < number → number ≤ mark → ⊥
+pub not_before : (mark last number : ℕ) → mark ≤ last → last < number → number ≤ mark → ⊥
 not_before mark last number onward above before = omega arith
 
-not_itself : (k : ℕ) → k < k → ⊥
+pub not_itself : (k : ℕ) → k < k → ⊥
 not_itself k below = omega arith
 
-later_yet : (last number k : ℕ) → last < number → number < k → last < k
+pub later_yet : (last number k : ℕ) → last < number → number < k → last < k
 later_yet last number k above later = omega arith
 
-same_at : (number k : ℕ) → number ≤ k → k ≤ number → k ≡ number
+pub same_at : (number k : ℕ) → number ≤ k → k ≤ number → k ≡ number
 same_at number k low high = omega arith
 
 -- the name that the walk comes by

@@ -2,15 +2,15 @@
 use Rattle.std.proofs.Common.{◌≡◌, ◌≢◌, ◌<◌, ◌≤◌, ◌+◌, ◌⊎◌, inl, inr, ℕ, zero, suc, List, [], ◌∷◌, ◌++◌, length, Bool, true, false, Some, refl, sym, ap, subst, ◌∙◌, eq-eqb, eqb-true, append_assoc, length-append, append-nil, arith}
 use Rattle.std.specs.Prelude.{◌==◌, slice_get, slice_index_or, Contains, All, map, Result, Ok, Err, IsOk, IfOk, OnOk, OnErr, IfErr}
 use Rattle.std.specs.Result.{result_and}
-use Rattle.std.proofs.lemmas.List.{map-append, length-map}
+use Rattle.std.proofs.lemmas.List.{map-append, length-map, nil_from_length}
 use Rattle.std.proofs.lemmas.List.Elements.{All-append, Contains-append_left, Contains-append_right, Contains-append_cases}
-use Rattle.std.proofs.lemmas.Option.{slice_get_within, slice_get-get_or, get_or_from_slice_get}
+use Rattle.std.proofs.lemmas.Option.{slice_get_within, slice_get-get_or, get_or_from_slice_get, same_Some}
 use Rattle.std.proofs.Math.Nat.{eq-or-lt_of_le}
 use Rattle.xds_resource.specs.declared.refusal.Refusal.{Refusal}
 use Rattle.xds_resource.specs.declared.refusal.Refusal.TheVariants.{OutOfMemory}
+use Rattle.xds_resource.proofs.BoolsAndLists.{none_in}
 use Rattle.xds_machine.specs.declared.wires.Bound.{Bound}
 use Rattle.xds_machine.specs.declared.wires.Wires.{Wires}
-use Rattle.xds_machine.proofs.Wired.{some_same}
 use Rattle.xds_machine.specs.Wiring.{given, Adds, AllChange, Gains, Joins, IsAlone, Stays, Tells, AreJoined, AreOrdered, IsWired}
 
 -- a pair that comes before this one
@@ -26,9 +26,6 @@ only_given : {X : Type 0} (b : Bool) (x y : X) → Contains (given b x) y → (b
 only_given true x y (zero, within, is) = (refl, is)
 only_given true x y (suc k, within, is) = absurd (omega (arith, within))
 only_given false x y (k, within, is) = absurd (omega (arith, within))
-
-none_there : {X : Type 0} (x : X) → Contains [] x → ⊥
-none_there x (k, within, is) = omega (arith, within)
 
 given_one : {X : Type 0} (k i : ℕ) (x : X) → k ≡ i → length (given (k == i) x) ≡ 1
 given_one k i x same = ap (λ b. length (given b x)) (eq-eqb k i same)
@@ -289,8 +286,8 @@ module _ {L C S T : Type 0} {linked : S → T → Type 0} where
   pub first_joined : (replicas : List (Bound L C S T)) → All IsAlone replicas → AreJoinedTo linked 0 0 replicas
   first_joined replicas alone = record {
     each = λ a b x y apart before here there. elim before [ inl earlier ↦ absurd (omega (arith, earlier)) | inr row ↦ absurd (omega (arith, row.1)) ];
-    told = λ a x e here has. absurd (none_there e (subst (λ xs. Contains xs e) (alone_at replicas alone a x here).0 has));
-    heard = λ b y f here has. absurd (none_there f (subst (λ xs. Contains xs f) (alone_at replicas alone b y here).1 has));
+    told = λ a x e here has. absurd (none_in e (subst (λ xs. Contains xs e) (alone_at replicas alone a x here).0 has));
+    heard = λ b y f here has. absurd (none_in f (subst (λ xs. Contains xs f) (alone_at replicas alone b y here).1 has));
     once = λ a x here. (told_first (length replicas) a (length x.sends.items) (ap length (alone_at replicas alone a x here).0), heard_first a (length x.takes.items) (ap length (alone_at replicas alone a x here).1));
   }
 
@@ -308,7 +305,7 @@ module _ {L C S T : Type 0} {linked : S → T → Type 0} where
 
 module _ {L C S T : Type 0} where
   pub stay_all : (rs : List (Bound L C S T)) → AllChange (λ _. Stays) rs rs
-  stay_all rs = record { count = refl; each = λ k b c here there. let same = some_same b c (sym here ∙ there) in (ap (λ r. r.sockets) (sym same), ap (λ r. r.changes) (sym same)) }
+  stay_all rs = record { count = refl; each = λ k b c here there. let same = same_Some b c (sym here ∙ there) in (ap (λ r. r.sockets) (sym same), ap (λ r. r.changes) (sym same)) }
 
   -- replicas stay where two are joined
   pub still_stay : (i j : ℕ) (s : S) (t : T) (first old new : List (Bound L C S T)) → AllChange (λ _. Stays) first old → Joins i j s t old new → AllChange (λ _. Stays) first new
@@ -328,10 +325,6 @@ module _ {L C S T : Type 0} where
   kept_by linked i j n (Ok e) first old new apart one other count stays joined ok are joins =
       (count ∙ sym joins.count, still_stay i j e.0 e.1 first old new stays joins, pair_joined i j e.0 e.1 old new apart (omega (arith, count, one)) (omega (arith, count, other)) joined joins are)
   kept_by linked i j n (Err e) first old new apart one other count stays joined ok are joins = absurd cc
-
-is_empty : {X : Type 0} (xs : List X) → length xs ≡ 0 → xs ≡ []
-is_empty [] none = refl
-is_empty (x ∷ xs) none = absurd (omega (arith, none))
 
 module _ {L C S T : Type 0} where
   one_alone : (b : Bound L C S T) → IsAlone b → All IsAlone (b ∷ [])
@@ -396,7 +389,7 @@ module _ {L I C S T : Type 0} (ordered : I → C → Type 0) where
       → OnOk joined (new.senders ≡ old.senders) → OnOk joined (AllChange (λ _. Stays) old.replicas.items new.replicas.items) → OnOk joined (AreJoined linked new.replicas.items)
       → both ≡ result_and done joined → OnOk both (kept ≡ Ok new) → IfErr both (λ e. kept ≡ Err e) → IfOk kept (IsWired ordered linked all)
   wired_after linked all rest (Ok u) (Ok v) (Ok w) kept old new none begun senders stay are is ok err =
-      let sockets = same_sockets old.replicas.items new.replicas.items stay ∙ sym (append-nil (map (λ b. b.sockets) old.replicas.items)) ∙ ap (λ xs. map (λ b. b.sockets) old.replicas.items ++ xs) (sym (is_empty rest none)) ∙ begun.0 in
+      let sockets = same_sockets old.replicas.items new.replicas.items stay ∙ sym (append-nil (map (λ b. b.sockets) old.replicas.items)) ∙ ap (λ xs. map (λ b. b.sockets) old.replicas.items ++ xs) (sym (nil_from_length rest none)) ∙ begun.0 in
       subst (λ k. IfOk k (IsWired ordered linked all)) (sym ok)
       (record {
         sockets = sockets;

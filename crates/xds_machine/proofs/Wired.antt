@@ -1,22 +1,19 @@
 -- What a list of replicas is after one of them was given an end.
 use Rattle.std.proofs.Common.{◌≡◌, ◌≢◌, ◌<◌, ◌≤◌, inl, inr, ℕ, zero, suc, List, [], ◌∷◌, ◌++◌, length, Bool, true, false, Some, refl, sym, ap, subst, ◌∙◌, append-nil, length-set, eq-eqb, ne_eqb, arith}
 use Rattle.std.specs.Prelude.{◌⊎◌, ◌==◌, slice_get, slice_set, slice_index_or}
-use Rattle.std.proofs.lemmas.Option.{slice_get_within, slice_get-get_or}
+use Rattle.std.proofs.lemmas.Option.{slice_get_within, slice_get-get_or, same_Some}
 use Rattle.std.proofs.lemmas.Bool.{false≢true}
 use Rattle.std.proofs.Math.Nat.{lt_of_not-le}
 use Rattle.xds_machine.specs.declared.wires.Bound.{Bound}
 use Rattle.xds_machine.specs.Wiring.{AllChange, GainsSend, GainsTake, Joins, given}
 
-pub some_same : {X : Type 0} (x y : X) → Some x ≡ Some y → x ≡ y
-some_same x y e = cc
-
 -- an element is set, and the others stay
 set_tells : {X : Type 0} (xs : List X) (i : ℕ) (y x : X) → slice_get xs i ≡ Some x
     → (k : ℕ) (b c : X) → slice_get xs k ≡ Some b → slice_get (slice_set xs i y) k ≡ Some c → ((k ≡ i) × (b ≡ x) × (c ≡ y)) ⊎ ((k ≢ i) × (b ≡ c))
 set_tells [] i y x at k b c old new = absurd cc
-set_tells (z ∷ zs) zero y x at zero b c old new = inl (refl, some_same b x (sym old ∙ at), some_same c y (sym new))
-set_tells (z ∷ zs) zero y x at (suc k) b c old new = inr ((λ e. omega (arith, e)), some_same b c (sym old ∙ new))
-set_tells (z ∷ zs) (suc i) y x at zero b c old new = inr ((λ e. omega (arith, e)), some_same b c (sym old ∙ new))
+set_tells (z ∷ zs) zero y x at zero b c old new = inl (refl, same_Some b x (sym old ∙ at), same_Some c y (sym new))
+set_tells (z ∷ zs) zero y x at (suc k) b c old new = inr ((λ e. omega (arith, e)), same_Some b c (sym old ∙ new))
+set_tells (z ∷ zs) (suc i) y x at zero b c old new = inr ((λ e. omega (arith, e)), same_Some b c (sym old ∙ new))
 set_tells (z ∷ zs) (suc i) y x at (suc k) b c old new = elim (set_tells zs i y x at k b c old new) [
   | inl here ↦ inl (ap suc here.0, here.1, here.2)
   | inr there ↦ inr ((λ e. there.0 (omega (arith, e))), there.1)
@@ -34,7 +31,7 @@ none_changes : {X : Type 0} (R : Bool → X → X → Type 0) → ((x : X) → R
     → (k : ℕ) (b c : X) → slice_get xs k ≡ Some b → slice_get xs k ≡ Some c → R (k == i) b c
 none_changes R stays xs i none k b c old new =
     let within = slice_get_within xs k b old in
-    subst (λ is. R is b c) (sym (ne_eqb k i (λ e. omega (arith, e, none, within)))) (subst (R false b) (some_same b c (sym old ∙ new)) (stays b))
+    subst (λ is. R is b c) (sym (ne_eqb k i (λ e. omega (arith, e, none, within)))) (subst (R false b) (same_Some b c (sym old ∙ new)) (stays b))
 
 pub is_past : (n m i : ℕ) → n ≡ m → (i < n → false ≡ true) → m ≤ i
 is_past n m i same none =

@@ -3,6 +3,7 @@ use Rattle.std.proofs.Common.{◌≡◌, ◌≢◌, ◌⊎◌, ℕ, ◌+◌, ◌
 use Rattle.std.specs.List.{AllZip, filter, flat_map}
 use Rattle.std.proofs.lemmas.List.{append-nil, map-append, take_more, take-append-drop}
 use Rattle.std.proofs.lemmas.List.Elements.{filter-append, All-append, All-map, All-head, All-tail, All-nil}
+use Rattle.std.proofs.lemmas.Bool.{or_from}
 use Rattle.serde_json.specs.Data.{Data, array, depth, items_depth}
 use Rattle.serde_json.specs.Find.{get}
 use Rattle.serde_json.specs.View.{items_of}
@@ -11,16 +12,16 @@ use Rattle.xds_resource.specs.Fields.{field}
 use Rattle.xds_resource.specs.declared.refusal.Refusal.{Refusal}
 use Rattle.xds_resource.specs.declared.types.TypeName.{TypeName}
 use Rattle.xds_resource.specs.declared.types.TypeName.TheVariants.{Cluster, Endpoint, Listener, Route, Secret}
-use Rattle.xds_resource.specs.PerType.{PerType, at, per_type, with_at}
+use Rattle.xds_resource.specs.PerType.{PerType, at, with_at}
 use Rattle.xds_resource.specs.Resources.{max_nesting}
 use Rattle.xds_resource.specs.TypedWrites.{TypedWrite, writes_of}
 use Rattle.xds_resource.specs.Types.{types, is_same_type}
 use Rattle.xds_resource.specs.Writes.{StampedWrite}
-use Rattle.xds_resource.proofs.TypesApart.{same_type, same_at_each_type, at-with_at, at-with_at_other}
+use Rattle.xds_resource.proofs.TypesApart.{same_type, same_at_each_type, at-with_at, at-with_at_other, at-per_type}
 use Rattle.xds_json.specs.Spelling.{IsObject, IsOrDefault, Reads, set_value}
 use Rattle.xds_json.specs.WrittenFields.{list_data}
 use Rattle.xds_json.proofs.FieldsReadBack.{get_member-members_set}
-use Rattle.xds_json.proofs.FieldsWithin.{neither, members_depth-members_set, members_have_float-members_set, IsWithin-list_data, HasNoFloat-list_data}
+use Rattle.xds_json.proofs.FieldsWithin.{members_depth-members_set, members_have_float-members_set, IsWithin-list_data, HasNoFloat-list_data}
 use Rattle.xds_json.proofs.Lists.{items_of-injective, IsArrayOf, Reads-same, map-twice}
 use Rattle.xds_json.proofs.OneField.{IsOrDefault-unique}
 use Rattle.xds_message.specs.Batches.{by_type, typed, in_order, AreWrites, SpellsBatch, SpellsOneBatch, batch_fields, batch_object, IsSound, IsBatchSpelledByItsObject, IsBatchOfItsWrites}
@@ -29,13 +30,6 @@ use Rattle.xds_message.proofs.ReadGroups.{same_twice}
 use Rattle.xds_message.proofs.StampedWriteLemmas.{SpellsWrite-unique, SpellsWrite-write_object, has_float-write_object, depth-write_object, first_of-None}
 
 -- ---- the writes of a type among others
-
-pub at-per_type : {X : Type 0} (f : TypeName → X) (t : TypeName) → at (per_type f) t ≡ f t
-at-per_type f Cluster = refl
-at-per_type f Endpoint = refl
-at-per_type f Listener = refl
-at-per_type f Route = refl
-at-per_type f Secret = refl
 
 pub writes_of-append : (t : TypeName) (xs ys : List TypedWrite) → writes_of t (xs ++ ys) ≡ writes_of t xs ++ writes_of t ys
 writes_of-append t xs ys =
@@ -155,7 +149,7 @@ each_unique (d ∷ ds) (v ∷ vs) (w ∷ ws) p q =
     let rest = each_unique ds vs ws p.1 q.1 in
     (λ i. (same.0 i, same.1 i) ∷ rest i)
 
-same_items : (d : Data) (ds es : List Data) → d ≡ array (items_of ds) → d ≡ array (items_of es) → ds ≡ es
+pub same_items : (d : Data) (ds es : List Data) → d ≡ array (items_of ds) → d ≡ array (items_of es) → ds ≡ es
 same_items d ds es p q = let same = sym p ∙ q in items_of-injective ds es cc
 
 listed_once : (d : Data) (vs ws : List TypedWrite) → IsArrayOf IsSpelledBy d vs → IsArrayOf IsSpelledBy d ws → vs ≡ ws
@@ -196,7 +190,7 @@ items_depth-objects (x ∷ xs) h = omega (arith, depth-write_object x.0 x.1 (All
 
 items_have_float-objects : (xs : List TypedWrite) → All IsSound xs → items_have_float (items_of (map (λ x. write_object x.0 x.1) xs)) ≡ false
 items_have_float-objects [] h = refl
-items_have_float-objects (x ∷ xs) h = neither _ _ (has_float-write_object x.0 x.1 (All-head IsSound x xs h).writable) (items_have_float-objects xs (All-tail IsSound x xs h))
+items_have_float-objects (x ∷ xs) h = or_from _ _ (has_float-write_object x.0 x.1 (All-head IsSound x xs h).writable) (items_have_float-objects xs (All-tail IsSound x xs h))
 
 -- a batch nests two levels more than its writes
 pub depth-batch_object : (b : PerType (List StampedWrite)) → All IsSound (in_order b) → depth (batch_object b) ≤ suc (suc (suc max_nesting))

@@ -1,5 +1,6 @@
 -- How deep the objects of the incremental variant's messages nest, and that they hold no float where their parts hold none.
 use Rattle.std.proofs.Common.{◌≡◌, ℕ, suc, ◌≤◌, List, [], ◌∷◌, false, map, All, refl, arith}
+use Rattle.std.proofs.lemmas.Bool.{or_from}
 use Rattle.std.specs.FinMap as finmap
 use Rattle.serde_json.specs.Data.{string, depth, items_depth, members_depth}
 use Rattle.serde_json.specs.View.{items_of}
@@ -7,7 +8,7 @@ use Rattle.serde_json.specs.Written.{has_float, items_have_float, members_have_f
 use Rattle.xds_json.specs.Versions.{pairs_data, text_members}
 use Rattle.xds_message.specs.DeltaMessages.{DeltaRequest, DeltaResponse, VersionedResource}
 use Rattle.xds_message.specs.DeltaWritten.{delta_request_fields, delta_request_object, resource_fields, resource_object, delta_response_fields, delta_response_object}
-use Rattle.xds_json.proofs.FieldsWithin.{IsWithin, members_depth-members_set, IsWithin-text_data, IsWithin-list_data, HasNoFloat, members_have_float-members_set, HasNoFloat-text_data, HasNoFloat-list_data, items_depth-texts, items_have_float-texts, IsWithin-identity, IsWithin-failure, HasNoFloat-identity, HasNoFloat-failure, neither}
+use Rattle.xds_json.proofs.FieldsWithin.{IsWithin, members_depth-members_set, IsWithin-text_data, IsWithin-list_data, HasNoFloat, members_have_float-members_set, HasNoFloat-text_data, HasNoFloat-list_data, items_depth-texts, items_have_float-texts, IsWithin-identity, IsWithin-failure, HasNoFloat-identity, HasNoFloat-failure}
 
 -- ---- requests
 
@@ -59,7 +60,7 @@ items_depth-resources (m ∷ ms) n h = omega (arith, depth-resource_object m n (
 
 items_have_float-resources : (ms : List VersionedResource) → All (λ r. has_float r.resource ≡ false) ms → items_have_float (items_of (map resource_object ms)) ≡ false
 items_have_float-resources [] h = refl
-items_have_float-resources (m ∷ ms) h = neither _ _ (has_float-resource_object m (h 0 m (omega arith))) (items_have_float-resources ms (λ k e below. h (suc k) e (omega arith)))
+items_have_float-resources (m ∷ ms) h = or_from _ _ (has_float-resource_object m (h 0 m (omega arith))) (items_have_float-resources ms (λ k e below. h (suc k) e (omega arith)))
 
 -- a response nests three levels more than its resources
 pub depth-delta_response_object : (m : DeltaResponse) (n : ℕ) → All (λ r. depth r.resource ≤ n) m.resources → depth (delta_response_object m) ≤ suc (suc (suc n))

@@ -1,11 +1,12 @@
 -- Texts of arrays and objects, joined piece by piece.
-use Rattle.std.proofs.Common.{◌≡◌, ℕ, zero, suc, ◌+◌, ◌<◌, ◌≤◌, List, [], ◌∷◌, ◌++◌, length, drop, get_or, map, Bool, true, false, ◌&&◌, Option, Some, None, Ordering, Less, Equal, Greater, is_lt, refl, sym, ap, ◌∙◌, append_assoc, arith}
+use Rattle.std.proofs.Common.{◌≡◌, ℕ, zero, suc, ◌+◌, ◌<◌, ◌≤◌, List, [], ◌∷◌, ◌++◌, length, drop, map, Bool, true, false, ◌&&◌, Option, Some, None, Ordering, Less, Equal, Greater, is_lt, refl, sym, ap, ◌∙◌, append_assoc, arith}
 use Rattle.std.specs.Prelude.{T}
 use Rattle.std.specs.Ordering.{match_ordering}
 use Rattle.serde_json.specs.Data.{Data, string, Members, member, put}
 use Rattle.serde_json.specs.View.{items_of}
 use Rattle.serde_json.specs.Written.{compact_text, items_text, members_text, comma_if}
 use Rattle.xds_resource.specs.Writes.{text_cmp}
+use Rattle.xds_resource.proofs.BoolsAndLists.{holds_first, holds_second}
 use Rattle.xds_message.specs.Written.{Fields, list_data, put_set, members_set, object_set}
 use Rattle.xds_message.specs.Joined.{JoinsMember, with_first, members_in_order, text_with, behind_commas, with_commas}
 
@@ -24,21 +25,13 @@ put_below Less a b c h = refl
 put_below Equal a b c h = absurd h
 put_below Greater a b c h = absurd h
 
-first_part : (a b : Bool) → T (a && b) → T a
-first_part true b h = tt
-first_part false b h = h
-
-second_part : (a b : Bool) → T (a && b) → T b
-second_part true b h = h
-second_part false b h = absurd h
-
 put-below-at : (key : List ℕ) (d : Data) (l : List ℕ) (o : Option Data) (ms : Members) → T (is_lt (text_cmp key l)) → put key d ms ≡ member key d ms → put key d (with_first l o ms) ≡ member key d (with_first l o ms)
 put-below-at key d l None ms h rest = rest
 put-below-at key d l (Some e) ms h rest = put_below (text_cmp key l) _ _ _ h
 
 put-below : (key : List ℕ) (d : Data) (fs : Fields) → T (is_below key fs) → put key d (members_in_order fs) ≡ member key d (members_in_order fs)
 put-below key d [] h = refl
-put-below key d (f ∷ fs) h = put-below-at key d f.0 f.1 (members_in_order fs) (first_part _ _ h) (put-below key d fs (second_part _ _ h))
+put-below key d (f ∷ fs) h = put-below-at key d f.0 f.1 (members_in_order fs) (holds_first _ _ h) (put-below key d fs (holds_second _ _ h))
 
 put_set-below : (key : List ℕ) (o : Option Data) (fs : Fields) → T (is_below key fs) → put_set key o (members_in_order fs) ≡ with_first key o (members_in_order fs)
 put_set-below key None fs h = refl
@@ -47,19 +40,9 @@ put_set-below key (Some d) fs h = put-below key d fs h
 -- fields that stand in the order of their names are the members in that order
 pub members_set-ascending : (fs : Fields) → T (ascend fs) → members_set fs ≡ members_in_order fs
 members_set-ascending [] h = refl
-members_set-ascending (f ∷ fs) h = ap (put_set f.0 f.1) (members_set-ascending fs (second_part _ _ h)) ∙ put_set-below f.0 f.1 fs (first_part _ _ h)
+members_set-ascending (f ∷ fs) h = ap (put_set f.0 f.1) (members_set-ascending fs (holds_second _ _ h)) ∙ put_set-below f.0 f.1 fs (holds_first _ _ h)
 
 -- ---- items
-
-drop-at : {A : Type 0} (xs : List A) (i : ℕ) (d : A) → i < length xs → drop i xs ≡ get_or xs i d ∷ drop (suc i) xs
-drop-at [] i d h = absurd (omega arith)
-drop-at (x ∷ xs) zero d h = refl
-drop-at (x ∷ xs) (suc i) d h = drop-at xs i d (omega arith)
-
-pub drop_here : {A : Type 0} (xs : List A) (i : ℕ) (x : A) → i < length xs → x ≡ get_or xs i x → drop i xs ≡ x ∷ drop (i + 1) xs
-drop_here xs i x h is =
-    let next : suc i ≡ i + 1 = omega arith in
-    drop-at xs i x h ∙ (λ j. sym is j ∷ drop (next j) xs)
 
 pub drop-past : {A : Type 0} (xs : List A) (i : ℕ) → length xs ≤ i → drop i xs ≡ []
 drop-past [] zero h = refl

@@ -2,13 +2,13 @@
 use Rattle.std.proofs.Common.{◌≡◌, List, [], ◌∷◌, Option, Some, refl, sym, ◌∙◌, subst}
 use Rattle.std.specs.List.{AllZip}
 use Rattle.std.specs.FinMap as finmap
-use Rattle.serde_json.specs.Data.{Data, array, object}
-use Rattle.serde_json.specs.View.{items_of}
+use Rattle.serde_json.specs.Data.{Data, object}
 use Rattle.xds_json.specs.Spelling.{set_value}
 use Rattle.xds_message.specs.Messages.{SpellsIdentity, SpellsFailure}
 use Rattle.xds_json.specs.Versions.{VersionMap, IsVersions, text_members}
 use Rattle.xds_message.specs.DeltaMessages.{DeltaRequest, DeltaResponse, VersionedResource, SpellsDeltaRequest, SpellsDeltaResponse, SpellsResource, IsResources}
-use Rattle.xds_json.proofs.Lists.{items_of-injective, IsArrayOf}
+use Rattle.xds_message.proofs.BatchLemmas.{same_items}
+use Rattle.xds_json.proofs.Lists.{IsArrayOf}
 use Rattle.xds_json.proofs.OneField.{IsOrDefault-unique, IsText-unique, IsTexts-unique, IsInner-unique, SpellsIdentity-unique, SpellsFailure-unique}
 use Rattle.xds_json.proofs.VersionLemmas.{text_members-injective}
 
@@ -46,9 +46,6 @@ each_unique [] (m ∷ ms) ns p q = absurd p
 each_unique (d ∷ ds) [] ns p q = absurd p
 each_unique (d ∷ ds) (m ∷ ms) [] p q = absurd q
 each_unique (d ∷ ds) (m ∷ ms) (n ∷ ns) p q = (λ i. SpellsResource-unique d m n p.0 q.0 i ∷ each_unique ds ms ns p.1 q.1 i)
-
-same_items : (d : Data) (ds es : List Data) → d ≡ array (items_of ds) → d ≡ array (items_of es) → ds ≡ es
-same_items d ds es p q = let same = sym p ∙ q in items_of-injective ds es cc
 
 IsArrayOf-unique : (d : Data) (ms ns : List VersionedResource) → IsArrayOf SpellsResource d ms → IsArrayOf SpellsResource d ns → ms ≡ ns
 IsArrayOf-unique d ms ns p q = each_unique q.0 ms ns (subst (λ ds. AllZip SpellsResource ds ms) (same_items d p.0 q.0 p.1 q.1) p.2) q.2

@@ -1,5 +1,5 @@
 -- The groups that are read from a list of texts are those that the field holds.
-use Rattle.std.proofs.Common.{◌≡◌, ℕ, List, Option, Some, None, Result, Ok, refl, sym, ap, ◌∙◌, subst}
+use Rattle.std.proofs.Common.{◌≡◌, ℕ, List, Option, Some, None, Result, Ok, refl, ap, ◌∙◌, subst}
 use Rattle.serde_json.specs.Data.{Data}
 use Rattle.xds_resource.specs.declared.refusal.Refusal.{Refusal}
 use Rattle.xds_resource.specs.Fields.{first_of}
@@ -13,9 +13,6 @@ use Rattle.xds_message.specs.StampedWrites.{AreGroups}
 pub same_twice : (o : Option Data) → first_of o o ≡ o
 same_twice None = refl
 same_twice (Some d) = refl
-
-pub texts_twice : (o : Option Data) (groups : List (List ℕ)) → AreGroups o groups → (texts : List (List ℕ)) × IsTexts (first_of o o) texts
-texts_twice o groups h = (h.0, subst (λ x. IsTexts x h.0) (sym (same_twice o)) h.1)
 
 pub Reads-groups : {X : Type 0} (o : Option Data) (texts : List (List ℕ)) (view_of : X → List (List ℕ)) (r : Result X Refusal) → IsTexts (first_of o o) texts → Reads (λ groups. groups_of texts ≡ Ok groups) view_of r
     → Reads (AreGroups o) view_of r

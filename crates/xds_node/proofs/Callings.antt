@@ -56,10 +56,6 @@ pub told_again : (old mid new : List (ℕ × Record)) (event same : Event) (r : 
 told_again old mid new event same (Ok a) is none told = told_as old mid new event same (answer_of a) is none told
 told_again old mid new event same (Err e) is none told = tt
 
-pub stays_again : (old mid new : List (ℕ × Record)) (r : Result (Result Reply Refusal) Refusal) → mid ≡ old → OnErr r (new ≡ mid) → OnErr r (new ≡ old)
-stays_again old mid new (Ok a) none same = tt
-stays_again old mid new (Err e) none same = same ∙ none
-
 -- ---- its answer
 
 -- one event of a seat, with the tries that left no record

@@ -17,17 +17,13 @@ use Rattle.std.proofs.lemmas.List.Sums.{AllPass-from_list_all, list_all-from_All
 use Rattle.std.proofs.lemmas.List.Kept.{Contains-dedup_nat, Contains-from_dedup}
 use Rattle.std.proofs.lemmas.List.Sorted.{searched, list_any-IsPermutation, IsPermutation-insert, IsNonDecreasingBy-insert, IsNonDecreasingBy-from_sort, IsNonDecreasingBy-from_all_adjacent}
 use Rattle.std.proofs.lemmas.Map.Keys.{IsStrictlyIncreasing-dedup}
+use Rattle.xds_resource.proofs.BoolsAndLists.{true_together}
 use Rattle.xds_node.specs.Prints.{mixed, shares}
 
 -- ---- which numbers a set has
 
 pub same : (s t : FinSet nat_cmp) → ((q : ℕ) → set.contains s q ≡ set.contains t q) → s ≡ t
 same = set.same_set nat_cmp_total nat_cmp-IsAntisymmetric
-
-both_sides : (a b : Bool) → (a ≡ true → b ≡ true) → (b ≡ true → a ≡ true) → a ≡ b
-both_sides true b there back = sym (there refl)
-both_sides false true there back = back refl
-both_sides false false there back = refl
 
 -- the set of a list
 abbrev pub of_list : List ℕ → FinSet nat_cmp
@@ -55,7 +51,7 @@ of_has xs x has =
     (one.0, one.2, get_or_default xs one.0 x one.1 one.2 ∙ one.3 ∙ eqb-true one.1 x one.4)
 
 pub there_already : (s : FinSet nat_cmp) (x : ℕ) → set.contains s x ≡ true → s ≡ set.insert s x
-there_already s x has = same _ _ (λ q. both_sides _ _ (λ is. contains-put s x q ∙ or_right (eqb q x) (set.contains s q) is)
+there_already s x has = same _ _ (λ q. true_together _ _ (λ is. contains-put s x q ∙ or_right (eqb q x) (set.contains s q) is)
     (λ is. ⊎_elim (λ tie. ap (set.contains s) (eqb-true q x tie) ∙ has) (λ old. old) (or_cases (eqb q x) (set.contains s q) (sym (contains-put s x q) ∙ is))))
 
 -- ---- a look-up
@@ -91,7 +87,7 @@ seen-placed xs ys s false i x seen is = tt
 -- ---- those of a list
 
 pub united_none : (s : FinSet nat_cmp) → s ≡ set.union s set.empty
-united_none s = same _ _ (λ q. sym (contains-both s set.empty q ∙ both_sides _ _ (λ is. ⊎_elim (λ a. a) (λ no. absurd (both_ways _ (set.contains-empty nat_cmp q) no)) (or_cases _ _ is)) (or_left _ _)))
+united_none s = same _ _ (λ q. sym (contains-both s set.empty q ∙ true_together _ _ (λ is. ⊎_elim (λ a. a) (λ no. absurd (both_ways _ (set.contains-empty nat_cmp q) no)) (or_cases _ _ is)) (or_left _ _)))
 
 united_put : (s t : FinSet nat_cmp) (x : ℕ) → set.insert (set.union s t) x ≡ set.union s (set.insert t x)
 united_put s t x = same _ _ (λ q.
@@ -129,7 +125,7 @@ once_up xs ys up once =
 seen-once : (xs : List ℕ) → of_list (dedup eqb xs) ≡ of_list xs
 seen-once xs = same _ _ (λ q.
     contains-of_list (dedup eqb xs) q
-    ∙ both_sides _ _ (λ is. has_of xs q (Contains-from_dedup eqb xs q (of_has _ q is))) (λ is. has_of _ q (Contains-dedup_nat xs q (of_has xs q is)))
+    ∙ true_together _ _ (λ is. has_of xs q (Contains-from_dedup eqb xs q (of_has _ q is))) (λ is. has_of _ q (Contains-dedup_nat xs q (of_has xs q is)))
     ∙ sym (contains-of_list xs q))
 
 seen-joined : (xs ys : List ℕ) → of_list (xs ++ ys) ≡ set.union (of_list xs) (of_list ys)
@@ -170,7 +166,7 @@ shared_by a b is =
     )
 
 pub any_shares : (a : FinSet nat_cmp) (xs : List ℕ) → list_any (set.contains a) xs ≡ shares a (of_list xs)
-any_shares a xs = both_sides _ _
+any_shares a xs = true_together _ _
     (λ is.
     let there = Any-from_list_any (set.contains a) xs is in
     shares_it a (of_list xs) there.1 there.4
@@ -181,7 +177,7 @@ any_shares a xs = both_sides _ _
     list_any_at (set.contains a) xs there.0 p.0 there.1 (ap (set.contains a) there.2 ∙ p.1))
 
 pub all_within : (a : FinSet nat_cmp) (xs : List ℕ) → list_all (set.contains a) xs ≡ set.is_subset (of_list xs) a
-all_within a xs = both_sides _ _
+all_within a xs = true_together _ _
     (λ is. set.contains-is_subset nat_cmp_total (of_list xs) a (λ q has.
     let there = of_has xs q (sym (contains-of_list xs q) ∙ has) in
     ap (set.contains a) (sym there.2) ∙ AllPass-from_list_all (set.contains a) xs is there.0 q there.1))

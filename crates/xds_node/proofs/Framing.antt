@@ -5,8 +5,8 @@ use Rattle.xds_resource.specs.declared.refusal.Refusal.{Refusal}
 use Rattle.xds_message.specs.declared.draft.Draft.{Draft}
 use Rattle.xds_message.specs.DraftTexts.{text_of}
 use Rattle.xds_frames.specs.Frames.{IsFrame}
+use Rattle.xds_frames.proofs.Gatherings.{of_calls as dev}
 use Rattle.xds_node.specs.Sending.{IsUnframed, Sends, kind_of}
-use Rattle.xds_node.proofs.Passing.{dev}
 
 pub unframed : (X : Type 0) (d : Draft) (text : List ℕ) (b : Option (List ℕ)) (f : ℕ) (e : Refusal) → text ≡ text_of d
     → IsUnframed (record { kind = kind_of d; text = text }) e → Sends {T = X} d (Err e) (dev b b f f)

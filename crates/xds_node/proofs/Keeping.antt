@@ -13,7 +13,7 @@ use Rattle.xds_node.specs.Entries.{numbered, records_of, Counted}
 use Rattle.xds_node.specs.Holdings.{keeper, share_holding, recorded, past_of, IsKeeperOf}
 use Rattle.xds_node.proofs.Numbers.{records_append, records_numbered, numbered_append, numbered_records}
 use Rattle.xds_node.proofs.Steps.{keeper_tell, keeper_share, share_is, recorded_is, cut_many}
-use Rattle.xds_node.specs.Books.{Books, most_records, base_of, present, after_cut, all_entries_of, IsKept}
+use Rattle.xds_node.specs.Books.{Books, most_records, after_cut, all_entries_of, IsKept}
 use Rattle.xds_node.specs.Told.{IsStepAt}
 use Rattle.xds_node.specs.Pieces.{piece_of, GoesOn, IsPiece}
 
@@ -33,14 +33,6 @@ replica_stays c [] = refl
 replica_stays c (r ∷ rs) = replica_stays (after c r.event) rs ∙ number_stays c r.event
 
 -- ---- the books
-
--- the base is what the books say
-pub kept_base : (replica : ℕ) (base core : Core) (journal : List Record) (cut seats : ℕ) (v : TokenHolding Record) → IsKept replica base core journal cut seats v → base_of (record { replica = base.replica; before = v.cut; journal = journal; seats = seats }) ≡ base
-kept_base replica base core journal cut seats v k = sym k.origin
-
--- and so is the core
-pub kept_present : (replica : ℕ) (base core : Core) (journal : List Record) (cut seats : ℕ) (v : TokenHolding Record) → IsKept replica base core journal cut seats v → present (record { replica = base.replica; before = v.cut; journal = journal; seats = seats }) ≡ core
-kept_present replica base core journal cut seats v k = ap (λ c. replayed c journal) (sym k.origin) ∙ sym k.state
 
 -- one record more
 pub kept_one : (replica : ℕ) (base core core' : Core) (journal journal' : List Record) (cut seats n : ℕ) (e : Event) (r : Record) (v w : TokenHolding Record) → IsKept replica base core journal cut seats v → length journal ≢ most_records → cut + length journal ≢ max_counter → n ≡ cut + length journal + 1 → r ≡ record { event = e; answer = answer_of (step core e) } → core' ≡ after core e → journal' ≡ journal ++ r ∷ [] → w ≡ keeper v.made v.cut (v.journal ++ (n, r) ∷ []) → IsKept replica base core' journal' cut seats w

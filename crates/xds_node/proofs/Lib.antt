@@ -23,7 +23,6 @@ pub mod Tellings
 pub mod Mergings
 pub mod Unpacking
 pub mod Comparing
-pub mod Packing
 pub mod Owings
 mod Fingerprints
 mod Covers

@@ -1,16 +1,10 @@
 -- Entries by their numbers: appended, counted, below a number, and found at their places.
-use Rattle.std.proofs.Common.{◌≡◌, ◌⊎◌, ℕ, zero, suc, ◌+◌, ◌<◌, ◌≤◌, List, [], ◌∷◌, ◌++◌, length, take, drop, refl, sym, ap, subst, ◌∙◌, ⊎_elim, arith, get_or, inl, inr}
+use Rattle.std.proofs.Common.{◌≡◌, ℕ, zero, suc, ◌+◌, ◌<◌, ◌≤◌, List, [], ◌∷◌, ◌++◌, length, take, drop, refl, sym, ap, subst, ◌∙◌, ⊎_elim, arith}
 use Rattle.std.specs.Prelude.{All, Contains}
 use Rattle.std.proofs.lemmas.List.{map-append}
 use Rattle.std.proofs.lemmas.List.Elements.{All-nil, All-cons, All-head, All-tail, All-weaker, All-contains}
+use Rattle.xds_resource.proofs.BestWrites.{Contains-cons_cases}
 use Rattle.xds_node.specs.Entries.{numbered, records_of, Counted, AllBelow}
-
-pub Contains-cases : {X : Type 0} (x y : X) (xs : List X) → Contains (x ∷ xs) y → (x ≡ y) ⊎ Contains xs y
-Contains-cases {X} x y xs there = at_place there.0 there.1 there.2
-  where
-    at_place : (k : ℕ) → k < length (x ∷ xs) → get_or (x ∷ xs) k y ≡ y → (x ≡ y) ⊎ Contains xs y
-    at_place zero below e = inl e
-    at_place (suc k) below e = inr (k, omega arith, e)
 
 module _ {E : Type 0} where
   pub length_numbered : (n : ℕ) (rs : List E) → length (numbered n rs) ≡ length rs
@@ -79,14 +73,14 @@ module _ {E : Type 0} where
       ⊎_elim
       (λ (here : e ≡ f). here)
       (λ (later : Contains es f). let from = All-contains (λ g. n + 1 ≤ g.0) es f (counted_from (n + 1) es c.1) later in absurd (omega arith))
-      (Contains-cases e f es there)
+      (Contains-cons_cases e f es there)
 
   pub later_of_counted : (n : ℕ) (e f : ℕ × E) (es : List (ℕ × E)) → Counted n (e ∷ es) → Contains (e ∷ es) f → n < f.0 → Contains es f
   later_of_counted n e f es c there number =
       ⊎_elim
       (λ (here : e ≡ f). let same : e.0 ≡ f.0 = ap (λ (g : ℕ × E). g.0) here in let first = c.0 in absurd (omega arith))
       (λ (later : Contains es f). later)
-      (Contains-cases e f es there)
+      (Contains-cons_cases e f es there)
 
   -- the first k are passed over by entries that are counted from behind them
   later_all : (n m : ℕ) (e : ℕ × E) (es fs : List (ℕ × E)) → Counted n (e ∷ es) → n < m → Counted m fs → All (Contains (e ∷ es)) fs → All (Contains es) fs

@@ -1,15 +1,15 @@
 -- Every replica has each write under its own name, and streams with numbers that were given.
 use Rattle.std.proofs.Common.{◌≡◌, ◌≢◌, ⊎_elim, ℕ, ◌+◌, ◌≤◌, ◌==◌, Option, Some, None, Result, Ok, Err, refl, sym, ap, subst, ◌∙◌, arith}
-use Rattle.std.specs.Prelude.{IfSome}
 use Rattle.std.specs.Option.{option_map_or}
 use Rattle.std.specs.Ordering.{nat_cmp}
 use Rattle.std.specs.FinMap as finmap
 use Rattle.std.proofs.lemmas.Bool.{cases_eq}
+use Rattle.std.proofs.lemmas.Option.{none-some}
 use Rattle.xds_resource.specs.declared.refusal.Refusal.{Refusal}
 use Rattle.xds_resource.specs.declared.refusal.Refusal.TheVariants.{CounterSpent, NoStream}
 use Rattle.xds_resource.specs.Stamps.{max_counter}
-use Rattle.xds_resource.specs.Writes.{text_cmp}
 use Rattle.xds_resource.proofs.TypesApart.{at-each}
+use Rattle.xds_resource.proofs.Refusing.{unless_once, ok_same}
 use Rattle.xds_catalogue.specs.Holdings.{Holdings, IsCatalogue, nothing_held}
 use Rattle.xds_message.specs.declared.draft.Draft.{Draft}
 use Rattle.xds_core.specs.Events.{Event, Open, Request, Poll, Owes, Close, Put, Delete, Merge, Snapshot, Rest, Since, Reply, Opened, Answered, Polled, Owed, Closed, Written, Merged}
@@ -18,12 +18,10 @@ use Rattle.xds_core.specs.Legal.{left_by}
 use Rattle.xds_core.specs.Steps.{Core, fresh, step, with_stream}
 use Rattle.xds_core.specs.Stores.{merging, putting_at, deleting_at, if_done}
 use Rattle.xds_core.specs.Streams.{Stream, opening, requested, polled_first, looked_at, owes_some}
-use Rattle.xds_core.proofs.StepLaws.{streams_stand_apart, done_with, unless_once}
+use Rattle.xds_core.proofs.StepLaws.{streams_stand_apart, done_with}
+use Rattle.xds_core.proofs.Fitting.{nothing_named}
 use Rattle.xds_node.specs.WakeLaws.{IsOrderly, ReplicasAreOrderly}
 use Rattle.xds_node.proofs.WakesCover.{still_sound}
-
-nothing_named : IsCatalogue nothing_held.entries
-nothing_named name = subst (λ o. IfSome o (λ w. w.name ≡ name)) (sym (finmap.get-empty text_cmp name)) tt
 
 none_open : (n : ℕ) (s : Stream) → finmap.get (finmap.empty {R = nat_cmp}) n ≡ Some s → ⊥
 none_open n s there = some_none s (sym there ∙ finmap.get-empty nat_cmp n) where
@@ -37,9 +35,6 @@ fresh_orderly replica = record {
 }
 
 -- ---- which streams were open
-
-ok_same : {X : Type 0} (x y : X) → ◌≡◌ {A = Result X Refusal} (Ok x) (Ok y) → y ≡ x
-ok_same x y is = cc
 
 -- the stream of an event that isn't refused is open, and no more were opened
 module _ (c later : Core) (n : ℕ) (reply : Reply) (f : Stream → Result (Reply × Core) Refusal) (same : (s : Stream) → f s ≡ Ok (reply, later) → later.opened ≡ c.opened) where
@@ -82,9 +77,6 @@ module _ (c later : Core) (reply : Reply) (orderly : IsOrderly c) where
         number_is : {x y : ℕ} → Some x ≡ Some y → x ≡ y
         number_is e = cc
 
-none_apart : (n : ℕ) → ◌≢◌ {A = Option ℕ} None (Some n)
-none_apart n e = absurd cc
-
 numbers_given : (c later : Core) (e : Event) (reply : Reply) → step c e ≡ Ok (reply, later) → IsOrderly c → (n : ℕ) (s : Stream) → finmap.get later.streams n ≡ Some s → n ≤ later.opened
 numbers_given c later Open reply is orderly n s there =
     let more = opening_opened c later reply is in
@@ -104,7 +96,7 @@ numbers_given c later (Poll k which) reply is orderly n s there =
     (there_at c later k reply f (λ x. stream_opened c later k reply Polled g x) (finmap.get c.streams k) refl is) there
 numbers_given c later (Owes k which) reply is orderly n s there =
     let same = opened_at c later k reply (λ x. Ok (Owed (owes_some c.store x (looked_at which)), c)) (λ x. plain_opened c c later reply _ refl) (finmap.get c.streams k) is in
-    apart_numbered c later reply orderly (Owes k which) n s is (omega (arith, same)) (none_apart n) there
+    apart_numbered c later reply orderly (Owes k which) n s is (omega (arith, same)) (none-some n) there
 numbers_given c later (Close k) reply is orderly n s there =
     let left = record c { streams = finmap.remove c.streams k } in
     let f : Stream → Result (Reply × Core) Refusal = λ x. Ok (Closed, left) in
@@ -114,24 +106,24 @@ numbers_given c later (Close k) reply is orderly n s there =
 numbers_given c later (Put t r groups) reply is orderly n s there =
     let made = done_with (λ p. (Written p.0 c.replica, record c { store = p.1 })) (putting_at c.store t r groups c.replica) (reply, later) is in
     let same = ap (λ x. x.1.opened) made.2 in
-    apart_numbered c later reply orderly (Put t r groups) n s is (omega (arith, same)) (none_apart n) there
+    apart_numbered c later reply orderly (Put t r groups) n s is (omega (arith, same)) (none-some n) there
 numbers_given c later (Delete t name) reply is orderly n s there =
     let made = done_with (λ p. (Written p.0 c.replica, record c { store = p.1 })) (deleting_at c.store t name c.replica) (reply, later) is in
     let same = ap (λ x. x.1.opened) made.2 in
-    apart_numbered c later reply orderly (Delete t name) n s is (omega (arith, same)) (none_apart n) there
+    apart_numbered c later reply orderly (Delete t name) n s is (omega (arith, same)) (none-some n) there
 numbers_given c later (Merge b) reply is orderly n s there =
     let made = done_with (λ p. (Merged p.0, record c { store = p.1 })) (merging c.store b) (reply, later) is in
     let same = ap (λ x. x.1.opened) made.2 in
-    apart_numbered c later reply orderly (Merge b) n s is (omega (arith, same)) (none_apart n) there
+    apart_numbered c later reply orderly (Merge b) n s is (omega (arith, same)) (none-some n) there
 numbers_given c later Snapshot reply is orderly n s there =
     let same = plain_opened c c later reply _ refl is in
-    apart_numbered c later reply orderly Snapshot n s is (omega (arith, same)) (none_apart n) there
+    apart_numbered c later reply orderly Snapshot n s is (omega (arith, same)) (none-some n) there
 numbers_given c later (Rest t names version cluster) reply is orderly n s there =
     let same = plain_opened c c later reply _ refl is in
-    apart_numbered c later reply orderly (Rest t names version cluster) n s is (omega (arith, same)) (none_apart n) there
+    apart_numbered c later reply orderly (Rest t names version cluster) n s is (omega (arith, same)) (none-some n) there
 numbers_given c later (Since marks) reply is orderly n s there =
     let same = plain_opened c c later reply _ refl is in
-    apart_numbered c later reply orderly (Since marks) n s is (omega (arith, same)) (none_apart n) there
+    apart_numbered c later reply orderly (Since marks) n s is (omega (arith, same)) (none-some n) there
 
 pub replicas_are_orderly : ReplicasAreOrderly
 replicas_are_orderly =

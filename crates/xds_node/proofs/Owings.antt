@@ -17,16 +17,16 @@ use Rattle.xds_frames.specs.Devices.{MoreFailed}
 use Rattle.xds_frames.specs.Frames.{frame_bytes}
 use Rattle.xds_core.specs.Events.{Reply}
 use Rattle.xds_core.specs.Legal.{Record}
-use Rattle.xds_node.specs.Sending.{Fits, Sends, frame_of, sent}
+use Rattle.xds_node.specs.Sending.{Fits, frame_of, sent}
 use Rattle.xds_node.specs.Turning.{draft_in}
 use Rattle.xds_node.specs.WorkersTold.{IsClosing, IsGranted}
 use Rattle.xds_node.specs.Writing.{HasWritten, IsPoll, IsWritten, TurnWrites, WritesAll, responses_of}
-use Rattle.xds_node.specs.Owing.{Asked, Begins, BeginsGiven, Closes, Frames, GivesUp, Goes, GoesGiven, Polls, PutsOnce, PutsSome, WriteAt, WriteLeads, WritesFrom, WritesOn, taken_by, write_at}
+use Rattle.xds_node.specs.Owing.{Asked, Begins, BeginsGiven, Closes, GivesUp, Goes, GoesGiven, Polls, PutsOnce, PutsSome, WriteAt, WriteLeads, WritesFrom, WritesOn, taken_by, write_at}
 use Rattle.xds_node.specs.Waiting.{Takes}
 use Rattle.xds_node.specs.declared.streams.poll_writer.WriteEnd.{WriteEnd}
 use Rattle.xds_frames.specs.declared.counted.Counted.{Counted}
+use Rattle.xds_frames.proofs.Gatherings.{of_calls as dev}
 use Rattle.xds_node.proofs.Callings.{Told, behind}
-use Rattle.xds_node.proofs.Passing.{dev}
 use Rattle.xds_node.proofs.Writings.{more_tries, no_tries, responses-append, sent-append, turn_ended, turn_refused, turn_stopped, turn_wrote}
 
 abbrev pub at : List (ℕ × Record) → List Record → Option Draft → List ℕ → Option (List ℕ) → ℕ → WriteAt
@@ -292,18 +292,6 @@ module _ (stream : ℕ) (old new : List (ℕ × Record)) (had has : List Record)
   asked_ends r none no_draft asked =
       subst (λ (l : List ℕ). WritesFrom stream (at old had given l holds failed) r (at new has given owed holds failed)) (sym (none_left owed none))
       (subst (λ (d : Option Draft). WritesFrom stream (at old had d [] holds failed) r (at new has given owed holds failed)) (sym no_draft) (ends_at stream old new had has holds failed r given owed asked))
-
--- ---- how a response is begun
-
--- all of it was sent
-pub sent_whole : (response : Draft) (b a : Option (List ℕ)) (f g : ℕ) → Sends {T = Unit {0}} response (Ok tt) (dev b a f g) → Begins response (dev b a f g) (Ok [])
-sent_whole response b a f g (fits, wrote, none) = (fits, (frame_bytes (frame_of response), wrote, sym (append-nil (frame_bytes (frame_of response)))), none)
-
--- or nothing was, and its frame is made
-pub framed_whole : (response : Draft) (b : Option (List ℕ)) (f : ℕ) (r : Result (List ℕ) Refusal) → Frames response r → Begins response (dev b b f f) r
-framed_whole response b f (Ok bytes) (fits, is) = (fits, ([], Appends-nil b, sym is), refl)
-framed_whole response b f (Err e) (inl (long, unfit)) = ([], Appends-nil b, inl (long, unfit, refl, refl))
-framed_whole response b f (Err e) (inr memory) = ([], Appends-nil b, inr (inl (memory, refl, refl)))
 
 -- ---- writes
 

@@ -3,12 +3,13 @@ use Rattle.std.proofs.Common.{◌≡◌, ◌≢◌, ℕ, suc, ◌+◌, ◌<◌, 
 use Rattle.std.specs.Prelude.{All, Contains, IsPermutation}
 use Rattle.std.proofs.lemmas.List.Elements.{All-head, All-tail, All-weaker, All-contains, Contains-append_left, Contains-append_right, Contains-append_cases}
 use Rattle.std.proofs.lemmas.List.Sorted.{IsPermutation-refl, IsPermutation-trans, IsPermutation-middle, IsPermutation-cons}
+use Rattle.xds_resource.proofs.BestWrites.{Contains-cons_cases}
 use mathlib.Core.Logic.{dite}
 use native.Mathlib.Decide.{ℕ_discrete}
 use Rattle.xds_node.specs.Entries.{Counted, weigh, SameEach}
 use Rattle.xds_node.specs.Tally.{IsPartOf}
 use Rattle.xds_node.proofs.Weights.{weigh_append}
-use Rattle.xds_node.proofs.Numbers.{Contains-cases, counted_from, first_of_counted, later_of_counted, part_at}
+use Rattle.xds_node.proofs.Numbers.{counted_from, first_of_counted, later_of_counted, part_at}
 use Rattle.xds_node.proofs.Covering.{all_by}
 
 -- where a list weighs anything, some element does
@@ -32,7 +33,7 @@ weigh_contained h x (y ∷ ys) there =
     ⊎_elim
     (λ (here : y ≡ x). let same : h y ≡ h x = ap h here in omega arith)
     (λ (later : Contains ys x). let part = weigh_contained h x ys later in omega arith)
-    (Contains-cases y x ys there)
+    (Contains-cons_cases y x ys there)
 
 module _ {E : Type 0} where
   -- whether an entry has this number

@@ -1,24 +1,15 @@
 -- Events one after another, and what is written meanwhile.
-use Rattle.std.proofs.Common.{◌≡◌, ℕ, List, [], ◌∷◌, ◌++◌, Option, Result, Ok, Err, refl, sym, ap, subst, ◌∙◌}
-use Rattle.std.specs.Prelude.{IsErrAnd}
+use Rattle.std.proofs.Common.{◌≡◌, ℕ, List, [], ◌∷◌, ◌++◌, Option, Ok, Err, refl, sym, ap, subst, ◌∙◌}
 use Rattle.std.specs.Io.KnownBytes.{Appends, Keeps}
 use Rattle.std.proofs.KnownBytes.{Appends-nil, Appends-trans, Appends-kept}
 use Rattle.xds_resource.specs.declared.refusal.Refusal.{Refusal}
 use Rattle.xds_frames.specs.Devices.{Device}
+use Rattle.xds_frames.proofs.Gatherings.{of_calls as dev}
 use Rattle.xds_core.specs.Events.{Event, Reply}
 use Rattle.xds_core.specs.Steps.{Core, step}
 use Rattle.xds_core.specs.Legal.{Record, IsLegal, replayed, after, left_by, answer_of}
 use Rattle.xds_node.specs.Records.{refused}
 use Rattle.xds_node.specs.Serving.{Does}
-
--- what holds of a call that is refused as another was
-pub err_is : {X : Type 0} (P : Result X Refusal → Type 0) (r : Result X Refusal) (e : Refusal) → IsErrAnd r (λ f. f ≡ e) → P (Err e) → P r
-err_is P (Ok x) e failed holds = absurd failed
-err_is P (Err f) e failed holds = subst (λ (x : Refusal). P (Err x)) (sym failed) holds
-
--- a device before and after
-abbrev pub dev : Option (List ℕ) → Option (List ℕ) → ℕ → ℕ → Device
-dev b a f g = record { before = b; after = a; failed_before = f; failed_after = g }
 
 pub legal_then : (c : Core) (rs ss : List Record) → IsLegal c rs → IsLegal (replayed c rs) ss → IsLegal c (rs ++ ss)
 legal_then c [] ss first second = second

@@ -12,15 +12,13 @@ use Rattle.xds_node.proofs.WorkersReadings.{filled, reads_with}
 use Rattle.futures.specs.Poll.{IfReady, OnPending}
 use Rattle.std.proofs.KnownBytes.{Consumes-nil}
 use Rattle.xds_node.specs.Turning.{Fills, GivesRequest}
-use Rattle.futures.specs.Task.{Covers}
-use Rattle.futures.specs.declared.task.context.Context.{Context}
 use Rattle.xds_resource.specs.declared.refusal.Refusal.TheVariants.{OutOfMemory}
-use Rattle.xds_node.specs.Waiting.{AtWork, Gets, IsAwaited, ReadsOn, Taken}
+use Rattle.xds_node.specs.Waiting.{Gets, IsAwaited, ReadsOn, Taken}
 use Rattle.xds_node.proofs.Callings.{Told, behind}
-use Rattle.xds_node.proofs.Passing.{dev}
 use Rattle.xds_node.specs.WorkersTold.{IsClosing}
 use Rattle.xds_frames.specs.Devices.{Device, seen}
 use Rattle.xds_frames.specs.declared.counted.Counted.{Counted}
+use Rattle.xds_frames.proofs.Gatherings.{of_calls as dev}
 use Rattle.xds_node.specs.declared.streams.poll_reader.ReadEnd.{ReadEnd}
 
 none_taken : (n : ℕ) (buf : List ℕ) → n ≤ length buf → take n buf ≡ [] → n ≡ 0
@@ -84,20 +82,6 @@ start_at stream old had held r i = (
     none_failed = refl;
   },
 )
-
--- ---- the gate
-
--- it isn't passed yet
-pub covers_gate : (cx : Context) (gates needs : ℕ → Type 0) (passed : Bool) → passed ≡ false → Covers cx gates → Covers cx (AtWork gates needs passed)
-covers_gate cx gates needs passed is covers = subst (λ (p : Bool). Covers cx (AtWork gates needs p)) (sym is) covers
-
--- it was passed
-pub covers_device : (cx : Context) (gates needs : ℕ → Type 0) (passed : Bool) → passed ≡ true → Covers cx needs → Covers cx (AtWork gates needs passed)
-covers_device cx gates needs passed is covers = subst (λ (p : Bool). Covers cx (AtWork gates needs p)) (sym is) covers
-
--- nothing was read meanwhile
-pub nothing_read : (b : Option (List ℕ)) (i : ℕ) → IsAwaited (dev b b i i)
-nothing_read b i = (Consumes-nil b, refl)
 
 -- ---- a future's polls
 

@@ -10,6 +10,7 @@ use Rattle.xds_resource.specs.declared.refusal.Refusal.{Refusal}
 use Rattle.xds_message.specs.declared.draft.Draft.{Draft}
 use Rattle.xds_frames.specs.Frames.{frame_bytes}
 use Rattle.xds_frames.specs.Devices.{MoreFailed}
+use Rattle.xds_frames.proofs.Gatherings.{of_calls as dev}
 use Rattle.xds_core.specs.Events as events
 use Rattle.xds_core.specs.Steps.{Core, step}
 use Rattle.xds_core.specs.Legal.{Record, IsShort}
@@ -17,7 +18,7 @@ use Rattle.xds_node.specs.Records.{Refuses, gave, polled_out, refused}
 use Rattle.xds_node.specs.Sending.{Fits, IsUnsent, frame_of, sent}
 use Rattle.xds_node.specs.Serving.{Does}
 use Rattle.xds_node.specs.Ending.{PollsEnd}
-use Rattle.xds_node.proofs.Passing.{dev, does_nothing, does_then, does_event, does_refused, does_text, does_as}
+use Rattle.xds_node.proofs.Passing.{does_nothing, does_then, does_event, does_refused, does_text, does_as}
 
 -- polls gave these responses, which were sent
 pub record IsSentTo (n : ℕ) (c now : Core) (b m : Option (List ℕ)) (f g : ℕ) : Type 0 where

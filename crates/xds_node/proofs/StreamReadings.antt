@@ -10,7 +10,6 @@ use Rattle.xds_frames.specs.Frames.{Framed, IsFrame, frame_bytes}
 use Rattle.xds_frames.specs.Decoding.{GivesNext, framed}
 use Rattle.xds_frames.specs.declared.frame.Frame.{Frame}
 use Rattle.xds_message.specs.Spelling.{IsJson}
-use Rattle.xds_message.specs.Messages.{Request, SpellsRequest}
 use Rattle.xds_message.specs.DeltaMessages.{DeltaRequest, SpellsDeltaRequest}
 use Rattle.xds_core.specs.Streams.{Message, Sotw, Delta}
 use Rattle.xds_node.specs.Requests.{Spells, SpellsAs}
@@ -44,20 +43,6 @@ data_of e among =
         ]
       ]
     ]
-
-pub unread_sotw : (f : Framed) (e : Refusal) → f.kind ≡ DiscoveryRequest → Contains (NotJson ∷ BadMessage ∷ OutOfMemory ∷ []) e
-    → (e ≡ NotJson → (d : Data) → IsJson f.text d → ⊥)
-    → (e ≡ BadMessage → (d : Data) × IsJson f.text d × ((m : Request) → SpellsRequest d m → ⊥)) → IsUnread f e
-unread_sotw f e kind among no_json bad =
-    elim (data_of e among) [
-      | inl is ↦ inl (inr (inl (is, inl kind, no_json is)))
-      | inr (inl is) ↦ inl (inr (inr (is, inl kind, ((bad is).0, (bad is).1, none (bad is).0 (bad is).2))))
-      | inr (inr is) ↦ inr (is, inl kind)
-    ]
-  where
-    none : (d : Data) → ((m : Request) → SpellsRequest d m → ⊥) → (m : Message) → SpellsAs f.kind d m → ⊥
-    none d never (Sotw m) spells = never m spells.1
-    none d never (Delta m) spells = absurd (apart (sym kind ∙ spells.0))
 
 pub unread_delta : (f : Framed) (e : Refusal) → f.kind ≡ DeltaDiscoveryRequest → Contains (NotJson ∷ BadMessage ∷ OutOfMemory ∷ []) e
     → (e ≡ NotJson → (d : Data) → IsJson f.text d → ⊥)

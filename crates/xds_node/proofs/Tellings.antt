@@ -6,7 +6,6 @@ use Rattle.std.proofs.lemmas.Bool.{false≢true, ne_eqb}
 use Rattle.std.proofs.lemmas.Grind.{flat_map-append}
 use Rattle.std.proofs.lemmas.List.Elements.{All-nil, All-push}
 use Rattle.xds_resource.specs.declared.refusal.Refusal.{Refusal}
-use Rattle.xds_resource.specs.declared.refusal.Refusal.TheVariants.{OutOfMemory}
 use Rattle.xds_resource.specs.PerType.{PerType, each}
 use Rattle.xds_resource.specs.TypedWrites.{TypedWrite}
 use Rattle.xds_resource.specs.Writes.{StampedWrite}
@@ -111,9 +110,6 @@ module _ (ws order : List TypedWrite) (old new : List (List ℕ × Bool)) (had h
 
   pub settles_err : (e : SendFailure) → Puts {T = Unit {0}} (parcels_of ws) old new (Err e) → has ≡ had → Settles (parcels_of order) old new had has (Err e)
   settles_err e (reason, (put, is, begins)) none = (reason, (put, is, subst (λ (l : List TypedWrite). Begins put (parcels_of l)) same begins), none)
-
-pub settles_unfilled : (parcels old : List (List ℕ × Bool)) (had : List Receipt) (e : Refusal) → e ≡ OutOfMemory → Settles parcels old old had had (Err (unsent.Refused e))
-settles_unfilled parcels old had e memory = (memory, ([], sym (append-nil old), (parcels, refl)), refl)
 
 -- ---- one turn
 

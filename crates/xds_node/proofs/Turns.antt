@@ -11,6 +11,7 @@ use Rattle.xds_resource.specs.declared.refusal.Refusal.{Refusal}
 use Rattle.xds_message.specs.declared.draft.Draft.{Draft}
 use Rattle.xds_ledger.specs.declared.outcome.Outcome.{Outcome}
 use Rattle.xds_frames.specs.Frames.{Framed, IsFrame, IsFault, IsPartial, frame_bytes}
+use Rattle.xds_frames.proofs.Gatherings.{of_calls as dev}
 use Rattle.xds_core.specs.StreamsSeen.{message_of}
 use Rattle.xds_core.specs.Streams.{Message}
 use Rattle.xds_core.specs.declared.request.Request.{Request}
@@ -24,7 +25,7 @@ use Rattle.xds_node.specs.Serving.{Served, IsServed, Does, frames_of, events_of,
 use Rattle.xds_node.specs.Ending.{Ends, IsUnread, MessageEnds, PollsEnd}
 use Rattle.xds_node.specs.Running.{Serves}
 use Rattle.xds_node.specs.Turning.{AnswersOne, Fills, GivesRequest, GoesOn, SendsDue, Turns, left_to_do}
-use Rattle.xds_node.proofs.Passing.{dev, does_nothing, does_then, does_event, does_refused, does_as, replayed_then}
+use Rattle.xds_node.proofs.Passing.{does_nothing, does_then, does_event, does_refused, does_as, replayed_then}
 
 -- ---- a request and its responses
 

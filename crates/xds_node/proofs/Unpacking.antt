@@ -7,6 +7,7 @@ use Rattle.xds_resource.specs.declared.refusal.Refusal.TheVariants.{NotJson, Bad
 use Rattle.xds_resource.specs.PerType.{PerType}
 use Rattle.xds_resource.specs.Writes.{StampedWrite}
 use Rattle.xds_json.specs.Spelling.{IsJson}
+use Rattle.xds_json.proofs.Lists.{one_value}
 use Rattle.xds_frames.specs.declared.frame.Frame.{Frame}
 use Rattle.xds_frames.specs.declared.frame.FrameKind.TheVariants as kinds
 use Rattle.xds_frames.specs.Frames.{Framed}
@@ -27,10 +28,6 @@ given bytes after r gives b is =
 -- the frame that was read is the parcel's
 same_frame : (bytes after : List ℕ) (f : Frame) → GivesNext bytes (Ok (Some f)) after → (b : Parts) → (is : IsFrameOf bytes b) → framed f ≡ record { kind = kinds.Batch; text = is.0 }
 same_frame bytes after f gives b is = let g = given bytes after (Ok (Some f)) gives b is in let same : f ≡ g.0 = cc in ap framed same ∙ g.2
-
--- a text reads as one value
-one_value : (json : List ℕ) (d e : Data) → IsJson json d → IsJson json e → d ≡ e
-one_value json d e p q = let same : Some d ≡ Some e = sym p.1 ∙ q.1 in cc
 
 -- a text of a batch is refused for want of memory alone
 batch_read : (text : List ℕ) (f : Refusal) → Contains (NotJson ∷ BadMessage ∷ OutOfMemory ∷ []) f → (f ≡ NotJson → (d : Data) → IsJson text d → ⊥)

@@ -17,10 +17,11 @@ use Rattle.xds_resource.specs.Types.{types}
 use Rattle.xds_resource.specs.Best.{greater, best}
 use Rattle.xds_resource.specs.Writes.{StampedWrite}
 use Rattle.xds_resource.specs.Resources.{written, deleted}
-use Rattle.xds_resource.proofs.BestWrites.{best_of_both}
+use Rattle.xds_resource.proofs.BestWrites.{best_of_both, greater-None}
 use Rattle.xds_resource.proofs.NameMaps.{bytes_eq_swap, bytes_eq_same}
 use Rattle.xds_resource.proofs.TypesApart.{at-with_at, at-with_at_other, same_type}
 use Rattle.xds_resource.proofs.WriteTies.{text_cmp-IsAntisymmetric}
+use Rattle.xds_resource.proofs.Refusing.{unless_once}
 use Rattle.xds_interest.specs.Interests.{Selection, reaches, has_name, is_open_to}
 use Rattle.xds_catalogue.specs.Holdings.{Holdings, Entries, IsCatalogue}
 use Rattle.xds_catalogue.specs.Joins.{joined}
@@ -41,7 +42,7 @@ use Rattle.xds_core.specs.Legal.{left_by}
 use Rattle.xds_core.specs.Steps.{Core, step}
 use Rattle.xds_core.specs.Stores.{Store, Batch, merged, merging, is_spent, grown, putting_at, deleting_at}
 use Rattle.xds_core.specs.Streams.{Stream, owes_of, to_send, first_due}
-use Rattle.xds_core.proofs.StepLaws.{only_writes_change_the_store, streams_stand_apart, done_with, put_is, delete_is, unless_once}
+use Rattle.xds_core.proofs.StepLaws.{only_writes_change_the_store, streams_stand_apart, done_with, put_is, delete_is}
 use Rattle.xds_node.specs.Concerns.{only, written_names, writes, asks, IsInBoth, IsConcernOf, may_meet}
 use Rattle.xds_node.specs.Wakes.{due_at}
 use Rattle.xds_node.specs.WakeLaws.{HoldsCatalogues, CoversWrites, Wants, OnlyReachedWritesCount, WakesCoverTheOwed, WakesCoverTheDue, WakesCoverTheHeld}
@@ -49,10 +50,6 @@ use Rattle.xds_node.specs.declared.node.concern.Concern.{Concern}
 use Rattle.xds_node.proofs.Covers.{never_fewer}
 
 -- ---- entries: a name that isn't written keeps its own
-
-greater-None : (a : Option StampedWrite) → greater a None ≡ a
-greater-None None = refl
-greater-None (Some v) = refl
 
 best_none : (ws : List StampedWrite) (q : List ℕ) → has_name (map (λ w. w.name) ws) q ≡ false → best ws q ≡ None
 best_none [] q none = refl
@@ -84,9 +81,6 @@ at-merged p b Endpoint = refl
 at-merged p b Listener = refl
 at-merged p b Route = refl
 at-merged p b Secret = refl
-
-store_of : Reply × Core → Store
-store_of x = x.1.store
 
 -- what isn't a write leaves the store
 unwritten_store : (c later : Core) (e : Event) (reply : Reply) → is_write e ≡ false → step c e ≡ Ok (reply, later) → later.store ≡ c.store

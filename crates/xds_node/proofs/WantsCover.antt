@@ -9,6 +9,7 @@ use Rattle.std.specs.FinMap.{nat_cmp-IsAntisymmetric}
 use Rattle.std.specs.FinSet as set
 use Rattle.std.proofs.lemmas.Bool.{true≢false, both_ways, or_parts, or_cases, or_left, or_right, or_from, and_parts, and_from, and_left, and_right, cases_eq, not_from_false}
 use Rattle.std.proofs.lemmas.List.Folds.{list_any-append}
+use Rattle.std.proofs.lemmas.Option.{none-some}
 use Rattle.xds_resource.specs.declared.types.TypeName.{TypeName}
 use Rattle.xds_resource.specs.declared.types.TypeName.TheVariants.{Cluster, Endpoint, Listener, Route, Secret}
 use Rattle.xds_resource.specs.declared.refusal.Refusal.{Refusal}
@@ -18,6 +19,7 @@ use Rattle.xds_resource.specs.Stamps.{max_counter}
 use Rattle.xds_resource.specs.Types.{row, type_of_url}
 use Rattle.xds_resource.specs.Writes.{text_cmp}
 use Rattle.xds_resource.proofs.TypesApart.{at-with_at, at-with_at_other, at-each, same_type}
+use Rattle.xds_resource.proofs.Refusing.{unless_once, ok_same}
 use Rattle.xds_interest.specs.Asked.{Asked, everything, sotw_asked, delta_asked, names_after}
 use Rattle.xds_interest.specs.Delta.{Mention}
 use Rattle.xds_interest.specs.Interests.{reaches, star_text, is_star, has_name, names_among}
@@ -39,7 +41,7 @@ use Rattle.xds_core.specs.Legal.{left_by}
 use Rattle.xds_core.specs.Steps.{Core, step, with_stream, on_stream}
 use Rattle.xds_core.specs.Stores.{Store, if_done}
 use Rattle.xds_core.specs.Streams.{Stream, Message, Sotw, Delta, url_of, cluster_of, variant_of, is_foreign, session_after, answered_by, answered, sessions_for, requested, to_send, responding, sent, polled, looked_at, first_due, polled_first}
-use Rattle.xds_core.proofs.StepLaws.{streams_stand_apart, done_with, unless_once}
+use Rattle.xds_core.proofs.StepLaws.{streams_stand_apart, done_with}
 use Rattle.xds_node.specs.Concerns.{set_of, only, asked_for, meets, covers, lists_it, names_it, subscribes_nothing, IsConcernOf, IsJoined}
 use Rattle.xds_node.specs.WakeLaws.{Wants, WantsBegin, WantsCoverRequests}
 use Rattle.xds_node.specs.declared.node.concern.Concern.{Concern}
@@ -262,9 +264,6 @@ same_sent s t o = record {
 answered_same : (s : Stream) (q p : Option Draft × Stream) → p ≡ q → SameAsked s q.1 → SameAsked s p.1
 answered_same s q p is same = subst (λ (x : Option Draft × Stream). SameAsked s x.1) (sym is) same
 
-ok_same : {X : Type 0} (x y : X) → ◌≡◌ {A = Result X Refusal} (Ok x) (Ok y) → y ≡ x
-ok_same x y is = cc
-
 polled_same : (replica : ℕ) (store : Store) (s : Stream) (t : TypeName) (p : Option Draft × Stream) → polled replica store s t ≡ Ok p → SameAsked s p.1
 polled_same replica store s t p is = polled_at (to_send store s t) is where
   polled_at : (o : Option Offer) → option_map_or (responding replica store s t) o (Ok (None, s)) ≡ Ok p → SameAsked s p.1
@@ -281,9 +280,6 @@ first_same replica store s ts p is = first_at (first_due store s ts) is where
 
 some_same : {X : Type 0} (x y : X) → Some x ≡ Some y → y ≡ x
 some_same x y is = cc
-
-some_none : {X : Type 0} (x : X) → Some x ≡ None → ⊥
-some_none x e = absurd cc
 
 -- the stream of an event that changes one
 module _ {X : Type 0} (c later : Core) (n : ℕ) (s l : Stream) (reply : Reply) (f : X → Reply) (g : Stream → Result (X × Stream) Refusal) where
@@ -304,9 +300,6 @@ kept : (c later : Core) (e : Event) (reply : Reply) (n : ℕ) (s l : Stream) (wa
 kept c later e reply n s l wants next is apart there now same before =
     let still = ap (λ (k : Core). finmap.get k.streams n) (sym (ap (left_by c) is)) ∙ streams_stand_apart c e n apart ∙ there in
     subst₂ Wants (sym same) (some_same l s (sym now ∙ still)) before
-
-none_apart : (n : ℕ) → ◌≢◌ {A = Option ℕ} None (Some n)
-none_apart n e = absurd cc
 
 other_apart : (k n : ℕ) → k ≢ n → Some k ≢ Some n
 other_apart k n other e = other (some_same n k (sym e))
@@ -329,7 +322,7 @@ wants_cover_requests c later (events.Poll k which) reply n s l wants next within
     subst₂ Wants (sym same) (sym made.2) (wants_same wants s made.0.1 (first_same c.replica c.store s (looked_at which) made.0 made.1) before))
     (λ other. kept c later (events.Poll k which) reply n s l wants next is (other_apart k n other) there now same before) (cases_eq k n)
 wants_cover_requests c later (events.Owes k which) reply n s l wants next within is there now same before =
-    kept c later (events.Owes k which) reply n s l wants next is (none_apart n) there now same before
+    kept c later (events.Owes k which) reply n s l wants next is (none-some n) there now same before
 wants_cover_requests c later (events.Close k) reply n s l wants next within is there now same before =
     ⊎_elim
     (λ here. absurd (gone here))
@@ -344,17 +337,17 @@ wants_cover_requests c later (events.Close k) reply n s l wants next within is t
       gone : k ≡ n → ⊥
       gone here =
           let none = removed (finmap.get (finmap.remove c.streams k) n) (get-removed nat_cmp_total nat_cmp-IsAntisymmetric c.streams k n) here in
-          some_none l (sym now ∙ ap (λ (x : Core). finmap.get x.streams n) (left (ap (finmap.get c.streams) here ∙ there)) ∙ none)
+          none-some l (sym (sym now ∙ ap (λ (x : Core). finmap.get x.streams n) (left (ap (finmap.get c.streams) here ∙ there)) ∙ none))
 wants_cover_requests c later (events.Put t r groups) reply n s l wants next within is there now same before =
-    kept c later (events.Put t r groups) reply n s l wants next is (none_apart n) there now same before
+    kept c later (events.Put t r groups) reply n s l wants next is (none-some n) there now same before
 wants_cover_requests c later (events.Delete t name) reply n s l wants next within is there now same before =
-    kept c later (events.Delete t name) reply n s l wants next is (none_apart n) there now same before
-wants_cover_requests c later (events.Merge b) reply n s l wants next within is there now same before = kept c later (events.Merge b) reply n s l wants next is (none_apart n) there now same before
-wants_cover_requests c later events.Snapshot reply n s l wants next within is there now same before = kept c later events.Snapshot reply n s l wants next is (none_apart n) there now same before
+    kept c later (events.Delete t name) reply n s l wants next is (none-some n) there now same before
+wants_cover_requests c later (events.Merge b) reply n s l wants next within is there now same before = kept c later (events.Merge b) reply n s l wants next is (none-some n) there now same before
+wants_cover_requests c later events.Snapshot reply n s l wants next within is there now same before = kept c later events.Snapshot reply n s l wants next is (none-some n) there now same before
 wants_cover_requests c later (events.Rest t names version cluster) reply n s l wants next within is there now same before =
-    kept c later (events.Rest t names version cluster) reply n s l wants next is (none_apart n) there now same before
+    kept c later (events.Rest t names version cluster) reply n s l wants next is (none-some n) there now same before
 wants_cover_requests c later (events.Since marks) reply n s l wants next within is there now same before =
-    kept c later (events.Since marks) reply n s l wants next is (none_apart n) there now same before
+    kept c later (events.Since marks) reply n s l wants next is (none-some n) there now same before
 
 -- rule: wake-ups
 pub wants_begin : WantsBegin

@@ -10,6 +10,7 @@ use Rattle.std.proofs.lemmas.List.Elements.{All-append, All-cons, All-nil}
 use Rattle.xds_resource.specs.declared.refusal.Refusal.{Refusal}
 use Rattle.xds_frames.specs.Frames.{Framed, IsFrame, IsFault, IsPartial, frame_bytes}
 use Rattle.xds_frames.specs.Devices.{Device}
+use Rattle.xds_frames.proofs.Gatherings.{of_calls as dev}
 use Rattle.xds_core.specs.StreamsSeen.{message_of}
 use Rattle.xds_core.specs.Streams.{Message}
 use Rattle.xds_core.specs.declared.request.Request.{Request}
@@ -19,7 +20,6 @@ use Rattle.xds_core.specs.Seen.{answer_of, reply_of}
 use Rattle.xds_core.specs.declared.event.Reply.{Reply}
 use Rattle.xds_node.specs.Ending.{IsUnread}
 use Rattle.xds_node.specs.Turning.{Fills, GivesRequest}
-use Rattle.xds_node.proofs.Passing.{dev}
 use Rattle.xds_node.specs.WorkersTold.{IsClosing}
 use Rattle.xds_node.specs.Reading.{Asking, Asks, HasRead, IsAsking, IsEnd, IsRead, IsTaken, ReadsAll, TurnReads, bytes_of, told_of, tried_of}
 use Rattle.xds_node.proofs.Callings.{Answering, Told, behind}

@@ -10,11 +10,11 @@ use Rattle.xds_resource.specs.declared.refusal.Refusal.TheVariants.{NoStream, Jo
 use Rattle.xds_message.specs.declared.draft.Draft.{Draft}
 use Rattle.xds_frames.specs.Devices.{Device}
 use Rattle.xds_frames.specs.Frames.{frame_bytes}
+use Rattle.xds_frames.proofs.Gatherings.{of_calls as dev}
 use Rattle.xds_core.specs.Events.{Reply, Opened, Answered, Polled, Owed, Closed, Written, Merged, Entries, Rested, Changed, Poll}
 use Rattle.xds_core.specs.Legal.{Record}
 use Rattle.xds_node.specs.Sending.{Fits, frame_of, sent}
 use Rattle.xds_node.specs.Turning.{draft_in}
-use Rattle.xds_node.proofs.Passing.{dev}
 use Rattle.xds_node.specs.WorkersTold.{IsGranted, IsClosing, IsTriedBefore, in_vain}
 use Rattle.xds_node.specs.Writing.{AreTries, HasWritten, IsPoll, IsStop, IsWritten, Responds, TurnWrites, WritesAll, listed, poll_of, response_in, responses_of}
 use Rattle.xds_node.proofs.Callings.{Answering, Told, behind}

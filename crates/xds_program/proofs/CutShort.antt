@@ -100,8 +100,3 @@ front_refused law bytes front last c (BadTrace line) r is whole some all_bad bad
       (front, last, is, whole, (λ (none : last ≡ []). law [] trace.0 line trace.1 (subst (λ (l : List ℕ). IsFirstBad l line) (some none) bad)), bad),
     )
 front_refused law bytes front last c OutOfMemory r is whole some all_bad bad = tt
-
--- why there is no verdict on some bytes
-pub left_unjudged : (bytes : List ℕ) (why : Unjudged) → IsLeftUnjudged bytes why → IsUnjudged bytes why
-left_unjudged bytes (BadTrace line) left = left.0
-left_unjudged bytes OutOfMemory left = tt

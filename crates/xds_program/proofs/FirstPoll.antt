@@ -8,6 +8,7 @@ use Rattle.std.specs.FinSet as set
 use Rattle.std.proofs.Math.Dec.{eqb-suc-zero}
 use Rattle.std.proofs.lemmas.Fmt.{decimal_digit}
 use Rattle.std.proofs.lemmas.List.Folds.{list_any-append}
+use Rattle.std.proofs.Math.Bool.{or-true}
 use Rattle.xds_resource.specs.declared.types.TypeName.{TypeName}
 use Rattle.xds_resource.specs.Types.{row}
 use Rattle.xds_resource.specs.Resources.{value_of}
@@ -39,7 +40,6 @@ use Rattle.xds_core.specs.Streams.{cluster_in}
 use Rattle.xds_sessions.specs.SotwPolls.{take, sending, response, stated_writes, HasPolled}
 use Rattle.xds_program.specs.Answers.{response_with, response_to}
 use Rattle.xds_program.proofs.Responding.{values_of}
-use Rattle.xds_ledger.proofs.Stored.{or_true}
 
 -- ---- what is believed after the first request
 
@@ -156,7 +156,7 @@ there_at s m name (Some w) found none = listed_fails (is_there s m) (finmap.keys
 
 -- no other names are present than the catalogue's
 there_among : (s : Selection) (m : Entries) (names : List (List ℕ)) (any : Bool) → list_any (is_there s m) (finmap.keys m) ≡ any → (list_any (is_there s m) names || any) ≡ any
-there_among s m names true is = or_true (list_any (is_there s m) names)
+there_among s m names true is = or-true (list_any (is_there s m) names)
 there_among s m names false is = ap (λ b. b || false) (none_passes (is_there s m) (λ name. there_at s m name (finmap.get m name) refl is) names)
 
 pub owed_by_content : (t : TypeName) (s : Selection) (m : Entries) (b : Beliefs) → AreUnsure b → IsCatalogue m → (row t).is_complete ≡ false
@@ -169,7 +169,7 @@ owed_by_content t s m b unsure named incomplete =
 -- ---- what is sent
 
 due_if : (complete owed test : Bool) → (complete ≡ false → owed ≡ test) → (owed || (complete && true)) ≡ (complete || test)
-due_if true owed test is = or_true owed
+due_if true owed test is = or-true owed
 due_if false true test is = is refl
 due_if false false test is = is refl
 

@@ -1,6 +1,5 @@
 -- How far a file of stamped writes was read, and what its lines leave.
 use Rattle.std.proofs.Common.{◌≡◌, ℕ, List, [], ◌∷◌, ◌++◌, refl, ap, sym, ◌∙◌, subst}
-use Rattle.xds_resource.specs.declared.refusal.Refusal.{Refusal}
 use Rattle.xds_resource.specs.TypedWrites.{TypedWrite}
 use Rattle.xds_resource.specs.PerType.{PerType, at, with_at, each}
 use Rattle.xds_resource.proofs.TypesApart.{at-each}
@@ -8,10 +7,9 @@ use Rattle.xds_catalogue.specs.Holdings.{Holdings, nothing_held}
 use Rattle.xds_catalogue.specs.Joins.{joined}
 use Rattle.xds_catalogue.proofs.OneWrite.{joined-nothing}
 use Rattle.xds_world.specs.Lines.{feed, lines, pieces}
-use Rattle.xds_program.specs.Answers.{held_of}
-use Rattle.xds_program.specs.Faults.{AreWriteLines, IsWriteLine, RefusesWrite}
+use Rattle.xds_program.specs.Faults.{AreWriteLines, IsWriteLine}
 use Rattle.xds_program.specs.Gathered.{IsReadTo}
-use Rattle.xds_program.specs.Stamped.{AreLeft, IsWriteFault, write_lines}
+use Rattle.xds_program.specs.Stamped.{AreLeft, write_lines}
 use Rattle.xds_program.proofs.Reading.{AreWriteLines-push, held_of-push}
 
 some_lines : (input : List ℕ) → (input ≡ [] → ⊥) → write_lines input ≡ lines input
@@ -34,27 +32,3 @@ all_left input rest line p after x some r last is leaves =
       writes_are = subst (λ (ls : List (List ℕ)). AreWriteLines ls (r.writes ++ x ∷ [])) (sym lines_are) (AreWriteLines-push r.before r.writes rest x r.writes_are is);
       held_are = λ t. ap (λ (q : PerType Holdings). at q t) leaves ∙ held_of-push p r.writes x r.held_are t;
     }
-
--- a line is refused, with these lines behind it
-at_fault : (input rest bytes : List ℕ) (after : List (List ℕ)) (line : ℕ) (p : PerType Holdings) (e : Refusal) → (input ≡ [] → ⊥) → IsReadTo input rest line (at p)
-    → pieces feed rest ≡ bytes ∷ after → RefusesWrite (at p) bytes e → IsWriteFault input line e
-at_fault input rest bytes after line p e some r split refused =
-    let same : at p ≡ held_of r.writes = λ i t. r.held_are t i in
-    record {
-      before = r.before;
-      at_fault = bytes;
-      after = after;
-      writes = r.writes;
-      lines_are = some_lines input some ∙ r.lines_are ∙ ap (λ (ps : List (List ℕ)). r.before ++ ps) split;
-      number_is = r.number_is;
-      writes_are = r.writes_are;
-      refused = subst (λ h. RefusesWrite h bytes e) same refused;
-    }
-
-pub line_at_fault : (input rest next bytes : List ℕ) (line : ℕ) (p : PerType Holdings) (e : Refusal) → (input ≡ [] → ⊥) → IsReadTo input rest line (at p)
-    → pieces feed rest ≡ bytes ∷ pieces feed next → RefusesWrite (at p) bytes e → IsWriteFault input line e
-line_at_fault input rest next bytes line p e some r split refused = at_fault input rest bytes (pieces feed next) line p e some r split refused
-
-pub last_at_fault : (input rest : List ℕ) (line : ℕ) (p : PerType Holdings) (e : Refusal) → (input ≡ [] → ⊥) → IsReadTo input rest line (at p)
-    → pieces feed rest ≡ rest ∷ [] → RefusesWrite (at p) rest e → IsWriteFault input line e
-last_at_fault input rest line p e some r last refused = at_fault input rest rest [] line p e some r last refused

@@ -1,8 +1,8 @@
 -- How an input that is read in pieces is judged: by all of its bytes, where these are known.
-use Rattle.std.proofs.Common.{◌≡◌, ◌⊎◌, inl, inr, ℕ, List, [], ◌++◌, Option, Some, None, IfSome, refl, sym, ap, subst, ◌∙◌, append-nil, append_assoc, Result, Ok, Err, IfErr}
+use Rattle.std.proofs.Common.{◌≡◌, ◌⊎◌, inl, inr, ℕ, List, [], ◌++◌, Option, Some, None, IfSome, refl, sym, ap, subst, ◌∙◌, append_assoc, Result, Ok, Err, IfErr}
 use Rattle.std.specs.Prelude.{IsErrAnd}
-use Rattle.std.specs.Io.KnownBytes.{Consumes, IsAtEnd, prepend_known}
-use Rattle.std.proofs.KnownBytes.{Consumes-trans, Consumes-whole}
+use Rattle.std.specs.Io.KnownBytes.{Consumes, prepend_known}
+use Rattle.std.proofs.KnownBytes.{Consumes-trans}
 use Rattle.xds_frames.specs.Devices.{MoreFailed}
 use Rattle.xds_check.specs.declared.piecewise.PiecewiseChecker.{PiecewiseChecker}
 use Rattle.xds_check.specs.Checkers.{HasRead}
@@ -26,10 +26,6 @@ anything (Some bytes) = tt
 pub stopped : (known : Option (List ℕ)) (before after : ℕ) (why : NoVerdict) → HasStopped before after why → IsUnread known before after why
 stopped known before after why (inl memory) = subst (IsUnread known before after) (sym memory) (anything known)
 stopped known before after why (inr failed) = subst (IsUnread known before after) (sym failed.0) failed.1
-
--- a bad line is told as before, whatever calls failed since
-pub still_bad : (known : Option (List ℕ)) (before one two : ℕ) (line : ℕ) → IsUnread known before one (NotJudged (BadTrace line)) → IsUnread known before two (NotJudged (BadTrace line))
-still_bad known before one two line is = is
 
 -- what holds of what a `?` passes on
 pub passed_on : {X : Type 0} (P : NoVerdict → Type 0) (r : Result X NoVerdict) (e : NoVerdict) → IsErrAnd r (λ f. f ≡ e) → P e → IfErr r P
@@ -64,13 +60,6 @@ so_far_some initial now checker r = (r.bytes, r.read)
 
 pub so_far_more : (initial now after : Option (List ℕ)) (old new : PiecewiseChecker) → IsReadSo initial now old → ReadsOn now after old new → IsReadSo initial after new
 so_far_more initial now after old new r more = record { bytes = r.bytes ++ more.came; taken = Consumes-trans initial now after r.bytes more.came r.taken more.taken; read = more.read r.bytes r.read }
-
-pub so_far_all : (initial now after : Option (List ℕ)) (old new : PiecewiseChecker) → IsReadSo initial now old → new ≡ old → Consumes now after [] → IsAtEnd after → IsReadWhole initial new
-so_far_all initial now after old new r same none end = record {
-  bytes = r.bytes;
-  all = Consumes-whole initial after (r.bytes ++ []) (λ input. input ≡ r.bytes) (Consumes-trans initial now after r.bytes [] r.taken none) end (append-nil r.bytes);
-  read = subst (HasRead r.bytes) (sym same) r.read;
-}
 
 -- what is said of all bytes, by those that came and those that are left
 behind : (P : List ℕ → Type 0) (initial now : Option (List ℕ)) (bytes : List ℕ) → Consumes initial now bytes → IfSome (prepend_known bytes now) P → IfSome initial P

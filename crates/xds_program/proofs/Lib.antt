@@ -3,7 +3,6 @@ pub mod Responding
 pub mod FirstPoll
 pub mod Taking
 pub mod Reading
-pub mod Writing
 pub mod Telling
 pub mod Judging
 pub mod LastLines

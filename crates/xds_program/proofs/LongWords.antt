@@ -3,6 +3,7 @@ use Rattle.std.proofs.Common.{◌≡◌, ◌⊎◌, ◌==◌, ◌∙◌, ℕ, ze
 use Rattle.std.proofs.Common.{refl, sym, ap, inl, inr, arith, Option, Some, None}
 use Rattle.std.specs.Prelude.{option_and_then}
 use Rattle.std.proofs.lemmas.Bool.Decides.{nat_tests}
+use Rattle.xds_world.proofs.Replicas.{bound_some}
 use Rattle.clap.specs.Words.{Text}
 use Rattle.clap.specs.Lexer.{long_of, long_of_rest, name_and_value, strip_byte}
 use Rattle.clap.proofs.CutLemmas.{Lacks}
@@ -58,11 +59,6 @@ strip_byte-first c (x ∷ xs) rest e = go (x == c) refl e
         cc
     go false is f = absurd (cc)
 
--- a second step gives something only where the first does
-and_then-some : {X Y : Type 0} (f : X → Option Y) (o : Option X) (y : Y) → option_and_then f o ≡ Some y → (x : X) × (o ≡ Some x) × (f x ≡ Some y)
-and_then-some f None y e = absurd (cc)
-and_then-some f (Some x) y e = (x, refl, e)
-
 -- past the two hyphens stands a name with its value
 long_of_rest-parts : (text name : Text) (v : Option Text) → long_of_rest text ≡ Some (name, v) → name_and_value text ≡ (name, v)
 long_of_rest-parts [] name v e = absurd (cc)
@@ -71,7 +67,7 @@ long_of_rest-parts (x ∷ xs) name v e = cc
 -- a long word is two hyphens, its name, and its value after an `=`
 pub long_of-joined : (word name : Text) (v : Option Text) → long_of word ≡ Some (name, v) → word ≡ 45 ∷ 45 ∷ joined name v
 long_of-joined word name v e =
-    let outer = and_then-some long_of_rest (option_and_then (strip_byte 45) (strip_byte 45 word)) (name, v) e in
-    let inner = and_then-some (strip_byte 45) (strip_byte 45 word) outer.0 outer.1 in
+    let outer = bound_some long_of_rest (option_and_then (strip_byte 45) (strip_byte 45 word)) (name, v) e in
+    let inner = bound_some (strip_byte 45) (strip_byte 45 word) outer.0 outer.1 in
     strip_byte-first 45 word inner.0 inner.1
     ∙ ap (λ t. 45 ∷ t) (strip_byte-first 45 inner.0 outer.0 inner.2 ∙ ap (λ t. 45 ∷ t) (name_and_value-joined outer.0 name v (long_of_rest-parts outer.0 name v outer.2)))

@@ -1,5 +1,5 @@
 -- How far an input was read: the lines so far are writes, and the catalogues hold what those writes leave.
-use Rattle.std.proofs.Common.{◌≡◌, ◌<◌, ◌≤◌, ◌+◌, ◌-◌, inl, inr, ℕ, List, [], ◌∷◌, ◌++◌, length, take, drop, take-append-drop, Bool, true, false, cond, refl, ap, sym, ◌∙◌, subst, arith, append_assoc, append-nil, length-append, length-take, length-drop}
+use Rattle.std.proofs.Common.{◌≡◌, ◌<◌, ◌≤◌, ◌+◌, ◌-◌, inl, inr, ℕ, List, [], ◌∷◌, ◌++◌, length, take, drop, take-append-drop, Bool, true, false, cond, refl, ap, sym, ◌∙◌, subst, arith, append_assoc, append-nil, length-append, length-drop}
 use Rattle.std.specs.Prelude.{map, slice_index, ◌==◌}
 use Rattle.std.proofs.lemmas.List.{map-append}
 use Rattle.std.proofs.lemmas.List.Splits.{length-slice_split, join_with_byte-slice_split}
@@ -17,6 +17,7 @@ use Rattle.xds_resource.specs.Writes.{StampedWrite}
 use Rattle.xds_resource.specs.TypedWrites.{TypedWrite, writes_of}
 use Rattle.xds_resource.specs.PerType.{PerType, at, with_at, each}
 use Rattle.xds_resource.proofs.TypesApart.{same_type, at-with_at, at-with_at_other, at-each}
+use Rattle.xds_resource.proofs.BoolsAndLists.{shorter_if}
 use Rattle.xds_catalogue.specs.Holdings.{Holdings, nothing_held, IsCatalogue}
 use Rattle.xds_catalogue.specs.Joins.{joined}
 use Rattle.xds_catalogue.proofs.Catalogues.{catalogue_of-IsCatalogue}
@@ -69,10 +70,6 @@ held_of-push p xs x agree t =
     ]
 
 -- ---- how far an input was read
-
-shorter_if : (b : Bool) (n : ℕ) (bs : List ℕ) → length (cond b (take n bs) bs) ≤ length bs
-shorter_if true n bs = omega (arith, length-take n bs)
-shorter_if false n bs = omega arith
 
 pub read_none : (input : List ℕ) (p : PerType Holdings) → ((t : TypeName) → at p t ≡ nothing_held) → IsReadTo input (without_last_feed input) 1 (at p)
 read_none input p empty = record {
@@ -184,9 +181,6 @@ taken_more rest left next bytes first line before held after x t split shorter i
   goes_on = λ input r.
       subst (λ (p : PerType Holdings). IsReadTo input next (line + 1) (at p)) (sym leaves) (read_more input left next bytes line held x (t.goes_on input r) split shorter is);
 }
-
-pub taken_bounded : (rest left : List ℕ) (first line : ℕ) (before held : PerType Holdings) → AreTaken rest left first line before held → length left ≤ length rest
-taken_bounded rest left first line before held t = omega (arith, ap (λ (l : List ℕ). length l) t.rest_is, length-append t.front left)
 
 -- so many bytes were taken
 pub taken_left : (rest left : List ℕ) (first line : ℕ) (before held : PerType Holdings) → AreTaken rest left first line before held → drop (length rest - length left) rest ≡ left

@@ -14,8 +14,7 @@ use Rattle.clap.specs.Values.{IsUnsignedIn}
 use Rattle.clap.specs.Walk.{row_text}
 use Rattle.clap.specs.declared.builder.value_parser.ValueParser.TheVariants as vp
 use Rattle.clap.proofs.ValueTestLemmas.{Accepts-accepts, accepts-Accepts}
-use Rattle.clap.specs.Words.{ReadsOne, Row, Text, first_of, matched_of, one_of, one_text, raw_values, rows_of, subcommand_name_of, subcommand_rows_of}
-use Rattle.clap.specs.declared.parser.matches.ArgMatches.{ArgMatches}
+use Rattle.clap.specs.Words.{ReadsOne, Row, Text, first_of, matched_of, one_of, one_text, raw_values, rows_of}
 use Rattle.clap.specs.declared.parser.matches.Found.{Found}
 use Rattle.clap.proofs.WalkLemmas.{one_text-rows, raw_values-rows}
 use Rattle.xds_program.specs.declared.tasks.Task.{Task}
@@ -334,35 +333,6 @@ no_delete rows none task h =
 
 -- ---- the command that was named
 
-mapped : {X Y Z : Type 0} (f : X → Y) (g : Y → Z) (o : Option X) → option_map (λ x. g (f x)) o ≡ option_map g (option_map f o)
-mapped f g None = refl
-mapped f g (Some x) = refl
-
--- the name of the command in what a parse found
-pub name_found : (m : ArgMatches) → subcommand_name_of m ≡ option_map (λ (p : Text × List Row). p.0) (subcommand_rows_of m)
-name_found m = mapped _ (λ (p : Text × List Row). p.0) _
-
--- the name and the values of what was found
-found_parts : (found : Option (Text × List Row)) (command : Text) (rows : List Row) → option_map (λ p. p.0) found ≡ Some command
-    → option_map (λ p. p.1) found ≡ Some rows → found ≡ Some (command, rows)
-found_parts None command rows name values = cc
-found_parts (Some p) command rows name values =
-    let first : p.0 ≡ command = cc in
-    let second : p.1 ≡ rows = cc in
-    λ i. Some (first i, second i)
-
--- what the command asks for is what was found asks for
-pub found_asks : (m : ArgMatches) (command : Text) (rows : List Row) (r : Option Task) → subcommand_name_of m ≡ Some command
-    → option_map (λ p. p.1) (subcommand_rows_of m) ≡ Some rows → Finds (AsksBy command rows) r → Finds (AsksIn (subcommand_rows_of m)) r
-found_asks m command rows r name values h =
-    let found = found_parts (subcommand_rows_of m) command rows (sym (name_found m) ∙ name) values in
-    subst (λ (x : Option (Text × List Row)). Finds (AsksIn x) r) (sym found) h
-
-pub found_asks_or : {E : Type 0} (m : ArgMatches) (command : Text) (rows : List Row) (r : Result (Option Task) E) → subcommand_name_of m ≡ Some command
-    → option_map (λ p. p.1) (subcommand_rows_of m) ≡ Some rows → IfOk r (Finds (AsksBy command rows)) → IfOk r (Finds (AsksIn (subcommand_rows_of m)))
-found_asks_or m command rows (Ok r) name values h = found_asks m command rows r name values h
-found_asks_or m command rows (Err e) name values h = tt
-
 -- the name of a task's command
 abbrev pub command_of : Task → Text
 command_of (Answer n) = codes "answer"
@@ -394,32 +364,3 @@ asked_by command rows (Delete d) h = h.0
 pub command_is : (found : Option (Text × List Row)) (task : Task) → AsksIn found task → option_map (λ p. p.0) found ≡ Some (command_of task)
 command_is None task h = absurd h
 command_is (Some p) task h = ap Some (asked_by p.0 p.1 task h)
-
--- where no command is named, no task is asked for
-pub no_command : (m : ArgMatches)
-    → (subcommand_name_of m ≡ Some (codes "answer") → ⊥)
-    → (subcommand_name_of m ≡ Some (codes "play") → ⊥)
-    → (subcommand_name_of m ≡ Some (codes "check") → ⊥)
-    → (subcommand_name_of m ≡ Some (codes "serve") → ⊥)
-    → (subcommand_name_of m ≡ Some (codes "client") → ⊥)
-    → (subcommand_name_of m ≡ Some (codes "poll") → ⊥)
-    → (subcommand_name_of m ≡ Some (codes "writes") → ⊥)
-    → (subcommand_name_of m ≡ Some (codes "status") → ⊥)
-    → (subcommand_name_of m ≡ Some (codes "get") → ⊥)
-    → (subcommand_name_of m ≡ Some (codes "put") → ⊥)
-    → (subcommand_name_of m ≡ Some (codes "delete") → ⊥)
-    → (task : Task) → AsksIn (subcommand_rows_of m) task → ⊥
-no_command m answer play check serve client poll writes status get put delete task h = go task (name_found m ∙ command_is (subcommand_rows_of m) task h)
-  where
-    go : (task : Task) → subcommand_name_of m ≡ Some (command_of task) → ⊥
-    go (Answer n) e = answer e
-    go (Play p) e = play e
-    go (Check c) e = check e
-    go (Serve s) e = serve e
-    go (Client c) e = client e
-    go (Poll p) e = poll e
-    go (Writes w) e = writes e
-    go (Status s) e = status e
-    go (Get g) e = get e
-    go (Put p) e = put e
-    go (Delete d) e = delete e

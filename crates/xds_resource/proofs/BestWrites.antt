@@ -109,6 +109,10 @@ greater-assoc (Some u) None c = refl
 greater-assoc (Some u) (Some v) None = refl
 greater-assoc (Some u) (Some v) (Some w) = ap Some (ord_max-assoc write_cmp_total write_cmp-IsAntisymmetric u v w)
 
+pub greater-None : (a : Option StampedWrite) → greater a None ≡ a
+greater-None None = refl
+greater-None (Some v) = refl
+
 -- rule: greatest-write
 pub best_of_both : (v w : List StampedWrite) (name : List ℕ) → BestOfBoth v w name
 best_of_both [] w name = refl

@@ -1,17 +1,18 @@
 -- Lists of groups: how a text comes to its place, and that what was gathered is kept as it is.
-use Rattle.std.proofs.Common.{◌≡◌, ℕ, suc, zero, ◌+◌, ◌≤◌, ◌<◌, ◌-◌, List, [], ◌∷◌, ◌++◌, map, length, T, take, drop, get_or, String, Bool, true, false, cond, not, ◌&&◌, ◌||◌, Option, Some, None, is_some, nat_lt, Result, Ok, Err, refl, subst, sym, ap, ◌∙◌, arith}
+use Rattle.std.proofs.Common.{◌≡◌, ℕ, suc, zero, ◌+◌, ◌≤◌, ◌<◌, ◌-◌, List, [], ◌∷◌, ◌++◌, map, length, T, take, drop, get_or, String, Bool, true, false, cond, not, ◌||◌, Option, Some, None, is_some, nat_lt, Result, Ok, Err, refl, subst, sym, ap, ◌∙◌, arith}
 use Rattle.std.specs.declared.cmp.Ordering.TheVariants.{Less, Equal, Greater}
 use Rattle.std.specs.List.{list_any, list_all}
 use Rattle.std.specs.Str.{bytes_eq}
 use Rattle.std.specs.Ordering.{eq_by_cmp, ordering_then}
 use Rattle.std.specs.String.{string_bytes, string_cmp}
 use Rattle.std.specs.Cmp.Lexicographic.{slice_cmp}
-use Rattle.std.proofs.lemmas.List.{drop_more, length-drop, take-append-drop, map-append}
-use Rattle.std.proofs.lemmas.Bool.{lt-ltb}
+use Rattle.std.proofs.lemmas.List.{drop_more, length-drop, take-append-drop, map-append, nil_from_length}
+use Rattle.std.proofs.lemmas.Bool.{lt-ltb, and_parts}
 use Rattle.std.specs.FinMap as finmap
 use Rattle.std.specs.FinMap.Entries.{by_order, put, is_sorted}
 use Rattle.std.proofs.lemmas.Cmp.{nat_list_cmp_total}
 use Rattle.std.proofs.lemmas.Map.Text.{is_eq-slice_cmp}
+use Rattle.std.proofs.Math.Bool.{or_self_left}
 use Rattle.xds_resource.specs.declared.refusal.Refusal.{Refusal}
 use Rattle.xds_resource.specs.declared.refusal.Refusal.TheVariants.{BadGroup}
 use Rattle.xds_resource.specs.Writes.{text_cmp, groups_cmp}
@@ -35,12 +36,8 @@ abbrev keyed : Texts → finmap.FinMap text_cmp (Unit {0})
 keyed [] = finmap.empty
 keyed (t ∷ ts) = finmap.insert (keyed ts) t tt
 
-no_items : {A : Type 0} (xs : List A) → length xs ≡ 0 → xs ≡ []
-no_items [] e = refl
-no_items (x ∷ xs) e = absurd (omega (arith, e))
-
 keys-keyed : (ts : Texts) → finmap.keys (keyed ts) ≡ grouped ts
-keys-keyed [] = ap (map (λ e. e.0)) (no_items (finmap.entries (keyed [])) (sym (finmap.len-entries (keyed [])) ∙ finmap.len-empty text_cmp (Unit {0})))
+keys-keyed [] = ap (map (λ e. e.0)) (nil_from_length (finmap.entries (keyed [])) (sym (finmap.len-entries (keyed [])) ∙ finmap.len-empty text_cmp (Unit {0})))
 keys-keyed (t ∷ ts) = ap (map (λ e. e.0)) (finmap.entries-insert nat_list_cmp_total (keyed ts) t tt) ∙ keys-put t (finmap.entries (keyed ts)) ∙ ap (placed t) (keys-keyed ts)
 
 length-placed : (t : List ℕ) (ts : Texts) → length ts ≤ length (placed t ts)
@@ -72,10 +69,6 @@ among-by_order : (ts : Texts) (q : List ℕ) → list_any (eq_by_cmp text_cmp q)
 among-by_order [] q = refl
 among-by_order (t ∷ ts) q = (λ i. is_eq-slice_cmp q t i || among-by_order ts q i)
 
-once : (a b : Bool) → (a || b) ≡ (a || (a || b))
-once true b = refl
-once false b = refl
-
 or_swap : (a b c : Bool) → (a || (b || c)) ≡ (b || (a || c))
 or_swap true true c = refl
 or_swap true false c = refl
@@ -86,7 +79,7 @@ has_group-placed t [] q = refl
 has_group-placed t (x ∷ ts) q =
     elim (text_cmp t x) as (λ o. text_cmp t x ≡ o → has_group (by_order o (t ∷ x ∷ ts) (x ∷ ts) (x ∷ placed t ts)) q ≡ (bytes_eq q t || (bytes_eq q x || has_group ts q))) [
       | Less ↦ λ is. refl
-      | Equal ↦ λ is. once (bytes_eq q x) (has_group ts q) ∙ ap (λ y. bytes_eq q y || (bytes_eq q x || has_group ts q)) (sym (text_cmp-IsAntisymmetric t x is))
+      | Equal ↦ λ is. sym (or_self_left (bytes_eq q x) (has_group ts q)) ∙ ap (λ y. bytes_eq q y || (bytes_eq q x || has_group ts q)) (sym (text_cmp-IsAntisymmetric t x is))
       | Greater ↦ λ is. ap (λ b. bytes_eq q x || b) (has_group-placed t ts q) ∙ or_swap (bytes_eq q x) (bytes_eq q t) (has_group ts q)
     ] refl
 
@@ -116,14 +109,10 @@ counted-more t ts b is =
     sym (length-keyed (t ∷ ts)) ∙ finmap.len-insert nat_list_cmp_total (keyed ts) t tt
     ∙ (λ i. cond ((contains-keyed ts t ∙ is) i) (length-keyed ts i) (length-keyed ts i + 1))
 
-both_parts : (a b : Bool) → (a && b) ≡ true → (a ≡ true) × (b ≡ true)
-both_parts true b e = (refl, e)
-both_parts false b e = absurd cc
-
 all-placed : (p : List ℕ → Bool) (t : List ℕ) (ts : Texts) → p t ≡ true → list_all p ts ≡ true → list_all p (placed t ts) ≡ true
 all-placed p t [] here rest = rw here refl
 all-placed p t (x ∷ ts) here rest =
-    let parts = both_parts (p x) (list_all p ts) rest in
+    let parts = and_parts (p x) (list_all p ts) rest in
     elim (text_cmp t x) as (λ o. list_all p (by_order o (t ∷ x ∷ ts) (x ∷ ts) (x ∷ placed t ts)) ≡ true) [
       | Less ↦ rw here rest
       | Equal ↦ rest
@@ -133,7 +122,7 @@ all-placed p t (x ∷ ts) here rest =
 all-grouped : (p : List ℕ → Bool) (ts : Texts) → list_all p ts ≡ true → list_all p (grouped ts) ≡ true
 all-grouped p [] all = refl
 all-grouped p (t ∷ ts) all =
-    let parts = both_parts (p t) (list_all p ts) all in
+    let parts = and_parts (p t) (list_all p ts) all in
     all-placed p t (grouped ts) parts.0 (all-grouped p ts parts.1)
 
 by_keys : (es : List (List ℕ × Unit {0})) → map (λ k. (k, tt {0})) (map (λ e. e.0) es) ≡ es

@@ -1,3 +1,4 @@
+pub mod BoolsAndLists
 pub mod Refusing
 pub mod Naming
 pub mod BestWrites

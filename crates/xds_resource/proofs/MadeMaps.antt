@@ -1,6 +1,6 @@
 -- Maps that are made by going over the entries of another map, or over names.
 use Rattle.std.proofs.Common.{◌≡◌, ℕ, List, [], ◌∷◌, Bool, true, false, cond, ◌||◌, Option, Some, None, refl, sym, ap, ◌∙◌}
-use Rattle.std.specs.Prelude.{T, ◌&&◌, bytes_eq}
+use Rattle.std.specs.Prelude.{T, bytes_eq}
 use Rattle.std.specs.declared.cmp.Ordering.{Ordering}
 use Rattle.std.specs.declared.cmp.Ordering.TheVariants.{Less, Equal, Greater}
 use Rattle.std.specs.Ordering.{is_lt, is_eq, eq_by_cmp}
@@ -11,14 +11,7 @@ use Rattle.std.proofs.lemmas.Map.Text.{is_eq-slice_cmp}
 use Rattle.xds_resource.specs.Writes.{text_cmp}
 use Rattle.xds_resource.specs.Names.{put_some, put_all, put_each}
 use Rattle.xds_resource.proofs.NameMaps.{has_text, get-put_some, bytes_eq_same, bytes_eq_tells, bytes_eq_swap}
-
-pub holds_first : (a b : Bool) → T (a && b) → T a
-holds_first true b h = tt
-holds_first false b h = h
-
-pub holds_second : (a b : Bool) → T (a && b) → T b
-holds_second true b h = h
-holds_second false b h = absurd h
+use Rattle.xds_resource.proofs.BoolsAndLists.{holds_first, holds_second}
 
 pub less_is_no_tie : (o : Ordering) → T (is_lt o) → is_eq o ≡ false
 less_is_no_tie Less h = refl

@@ -4,7 +4,7 @@ use Rattle.std.specs.Prelude.{T, ◌&&◌, string_bytes, bytes_eq, is_some}
 use Rattle.std.specs.declared.cmp.Ordering.TheVariants.{Less}
 use Rattle.std.specs.Ordering.{nat_cmp, is_lt, is_eq, eq_by_cmp}
 use Rattle.std.specs.Option.{option_or}
-use Rattle.std.specs.List.{AllByRecursion, list_any}
+use Rattle.std.specs.List.{AllByRecursion, list_any, filter}
 use Rattle.std.specs.List.Sorted.{IsStrictlySortedBy}
 use Rattle.std.specs.Cmp.Lexicographic.{slice_cmp}
 use Rattle.std.specs.String.{string_cmp}
@@ -15,12 +15,14 @@ use Rattle.std.specs.FinMap as finmap
 use Rattle.std.specs.FinSet as set
 use Rattle.std.proofs.lemmas.List.Folds.{list_any-append}
 use Rattle.std.specs.FinMap.Entries.{below_all, is_sorted, same_entries}
+use Rattle.std.specs.Borrow.{Bor}
 use Rattle.std.proofs.lemmas.Cmp.{nat_list_cmp_total}
 use Rattle.std.proofs.lemmas.Map.Text.{is_eq-slice_cmp, btree_map_updates_text}
 use Rattle.xds_resource.specs.Writes.{text_cmp}
 use Rattle.xds_resource.specs.Names.{pairs, put_some, tabulate}
 use Rattle.std.proofs.lemmas.Slice.Eq.{bytes_eq-Decides}
-use Rattle.std.proofs.lemmas.Bool.{cases_Bool, false_from_ne_true, true≢false}
+use Rattle.std.proofs.lemmas.Bool.{cases_Bool, false_from_ne_true, true≢false, or_parts}
+use Rattle.std.proofs.Math.Bool.{and-false, or-true}
 use Rattle.xds_resource.proofs.WriteTies.{text_cmp-IsAntisymmetric}
 
 -- a map as its entries show it
@@ -148,13 +150,9 @@ has_text-items s q = sym (has_text-by_order (set.items s) q) ∙ sym (set.contai
 has_text-append : (xs ys : List (List ℕ)) (q : List ℕ) → has_text (xs ++ ys) q ≡ (has_text xs q || has_text ys q)
 has_text-append xs ys q = list_any-append (bytes_eq q) xs ys
 
-neither : (a b : Bool) → (a || b) ≡ false → (a ≡ false) × (b ≡ false)
-neither true b e = absurd cc
-neither false b e = (refl, e)
-
 -- a name that is in none of two lists
 pub in_neither : (xs ys : List (List ℕ)) (q : List ℕ) → has_text (xs ++ ys) q ≡ false → (has_text xs q ≡ false) × (has_text ys q ≡ false)
-in_neither xs ys q e = neither _ _ (sym (has_text-append xs ys q) ∙ e)
+in_neither xs ys q e = or_parts _ _ (sym (has_text-append xs ys q) ∙ e)
 
 pub none_by_is_some : {X : Type 0} (o : Option X) → is_some o ≡ false → o ≡ None
 none_by_is_some None e = refl
@@ -163,3 +161,37 @@ none_by_is_some (Some x) e = absurd cc
 -- a map has nothing at a name that isn't among its names
 pub absent_key : {X : Type 0} (m : finmap.FinMap text_cmp X) (q : List ℕ) → has_text (finmap.keys m) q ≡ false → finmap.get m q ≡ None
 absent_key m q e = none_by_is_some (finmap.get m q) (sym (has_text-keys m q) ∙ e)
+
+-- ---- changes at each of some names
+
+-- what is taken out at one name, and then at the others
+pub removed_step : {X : Type 0} (here later : Bool) (o : Option X) → cond later None (cond here None o) ≡ cond (here || later) None o
+removed_step true later o = cond_same later None
+removed_step false later o = refl
+
+-- what was put at a name that is listed is taken out with what is listed
+pub added_step : {X : Type 0} (listed here : Bool) (x o : Option X) → (here ≡ true → listed ≡ true) → cond listed None (cond here x o) ≡ cond listed None o
+added_step true here x o in_it = refl
+added_step false true x o in_it = let listed = in_it refl in absurd cc
+added_step false false x o in_it = refl
+
+-- texts that are borrowed
+abbrev pub texts_of : List (Bor (List ℕ)) → List (List ℕ)
+texts_of ns = map (λ n. n.now) ns
+
+pub listed_behind : (xs : List (Bor (List ℕ))) (x : Bor (List ℕ)) (ys : List (Bor (List ℕ))) → has_text (texts_of (xs ++ x ∷ ys)) x.now ≡ true
+listed_behind [] x ys = λ i. bytes_eq_same x.now i || has_text (texts_of ys) x.now
+listed_behind (y ∷ xs) x ys = ap (λ b. bytes_eq x.now y.now || b) (listed_behind xs x ys) ∙ or-true (bytes_eq x.now y.now)
+
+filter_step : (p : List ℕ → Bool) (n : List ℕ) (ns : List (List ℕ)) (q : List ℕ) (passes here : Bool) → p n ≡ passes → bytes_eq q n ≡ here → (here ≡ true → p q ≡ passes)
+    → has_text (filter p ns) q ≡ (has_text ns q && p q) → has_text (cond passes (n ∷ filter p ns) (filter p ns)) q ≡ ((here || has_text ns q) && p q)
+filter_step p n ns q true true is same there rest = (λ i. same i || has_text (filter p ns) q) ∙ sym (there refl)
+filter_step p n ns q true false is other there rest = (λ i. other i || has_text (filter p ns) q) ∙ rest
+filter_step p n ns q false true is same there rest = rest ∙ ap (λ b. has_text ns q && b) (there refl) ∙ and-false (has_text ns q) ∙ sym (there refl)
+filter_step p n ns q false false is other there rest = rest
+
+-- the texts that pass a test are those of the list that pass it
+pub filtered : (p : List ℕ → Bool) (ns : List (List ℕ)) (q : List ℕ) → has_text (filter p ns) q ≡ (has_text ns q && p q)
+filtered p [] q = refl
+filtered p (n ∷ ns) q =
+    filter_step p n ns q (p n) (bytes_eq q n) refl refl (λ same. ap p (bytes_eq_tells q n same)) (filtered p ns q)

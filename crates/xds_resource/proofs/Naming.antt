@@ -63,10 +63,6 @@ pub IsRefused-front : (text : List ℕ) (e : Refusal) → unless_refused (front_
 IsRefused-front text e refused =
     refused_as text e (named_type (value_of text)) (λ t. unless_refused-refused (front_conditions text) (object_conditions t (value_of text)) (value_of text) (resource_of t (value_of text)) e refused)
 
-pub unless_not : (b : Bool) → not b ≡ true → b ≡ false
-unless_not true e = absurd cc
-unless_not false e = refl
-
 conditions_valid : (a b : Bool) (x r : NamedBody) → b ≡ is_valid_name x.name → cond (not a) (Err BadResource) (cond (not b) (Err BadName) (Ok x)) ≡ Ok r → is_valid_name r.name ≡ true
 conditions_valid true true x r is e = let same : x ≡ r = cc in ap (λ y. is_valid_name y.name) (sym same) ∙ sym is
 conditions_valid true false x r is e = absurd cc

@@ -1,5 +1,6 @@
 -- Conditions in a row: what holds of all of them from what holds of the first ones.
-use Rattle.std.proofs.Common.{◌≡◌, List, [], ◌∷◌, ◌++◌, Bool, true, false, cond, Result, Ok, Err, refl, ◌≢◌, ◌⊎◌, inl, inr}
+use Rattle.std.proofs.Common.{◌≡◌, List, [], ◌∷◌, ◌++◌, Bool, true, false, cond, Result, Ok, Err, refl, ◌≢◌, ◌⊎◌, inl, inr, subst, sym}
+use Rattle.std.specs.Prelude.{IsErrAnd, if◌then◌else◌}
 use Rattle.xds_resource.specs.declared.refusal.Refusal.{Refusal}
 use Rattle.xds_resource.specs.declared.refusal.Refusal.TheVariants.{NotJson, TooDeep, NotWhole, BadResource, BadName, TooLong, BadMessage, OutOfMemory, NotFound, CounterSpent, BadStamp, NoStream, WrongVariant, NonceSpent, EmptyFrame, FrameTooLong, UnknownKind, Truncated, Device, JournalFull, BadScript, BadTrace, Gap, BadGroup}
 use Rattle.xds_resource.specs.Refusals.{unless_refused}
@@ -60,3 +61,25 @@ memory_or_not BadScript = inr (λ same. cc)
 memory_or_not BadTrace = inr (λ same. cc)
 memory_or_not Gap = inr (λ same. cc)
 memory_or_not BadGroup = inr (λ same. cc)
+
+-- what holds of a call that is refused as another was
+pub err_is : {X : Type 0} (P : Result X Refusal → Type 0) (r : Result X Refusal) (e : Refusal) → IsErrAnd r (λ f. f ≡ e) → P (Err e) → P r
+err_is P (Ok x) e failed holds = absurd failed
+err_is P (Err f) e failed holds = subst (λ (x : Refusal). P (Err x)) (sym failed) holds
+
+pub ok_same : {X : Type 0} (x y : X) → ◌≡◌ {A = Result X Refusal} (Ok x) (Ok y) → y ≡ x
+ok_same x y is = cc
+
+-- ---- what an answer is where one, two or three conditions come before it
+
+pub unless_once : {A : Type 0} (a : Bool) (e : Refusal) (x y : A) → (if a then Err e else Ok x) ≡ Ok y → y ≡ x
+unless_once true e x y is = absurd cc
+unless_once false e x y is = cc
+
+pub unless_twice : {A : Type 0} (a b : Bool) (e f : Refusal) (x y : A) → (if a then Err e else (if b then Err f else Ok x)) ≡ Ok y → y ≡ x
+unless_twice true b e f x y is = absurd cc
+unless_twice false b e f x y is = unless_once b f x y is
+
+pub unless_thrice : {A : Type 0} (a b d : Bool) (e f g : Refusal) (x y : A) → (if a then Err e else (if b then Err f else (if d then Err g else Ok x))) ≡ Ok y → y ≡ x
+unless_thrice true b d e f g x y is = absurd cc
+unless_thrice false b d e f g x y is = unless_twice b d f g x y is

@@ -1,9 +1,9 @@
 -- The types apart: which are the same, and what is put at one of them.
-use Rattle.std.proofs.Common.{◌≡◌, ◌≢◌, ◌⊎◌, inl, inr, true, false, refl}
+use Rattle.std.proofs.Common.{◌≡◌, ◌≢◌, ◌⊎◌, inl, inr, true, false, refl, Some}
 use Rattle.xds_resource.specs.declared.types.TypeName.{TypeName}
 use Rattle.xds_resource.specs.declared.types.TypeName.TheVariants.{Cluster, Endpoint, Listener, Route, Secret}
-use Rattle.xds_resource.specs.Types.{is_same_type}
-use Rattle.xds_resource.specs.PerType.{PerType, at, with_at, PutsAtOneType, each}
+use Rattle.xds_resource.specs.Types.{is_same_type, row, type_of_word}
+use Rattle.xds_resource.specs.PerType.{PerType, at, with_at, PutsAtOneType, each, per_type}
 
 module _ {X : Type 0} where
   pub at-with_at : (p : PerType X) (t : TypeName) (x : X) → at (with_at p t x) t ≡ x
@@ -50,6 +50,14 @@ module _ {X : Type 0} where
   at-each x Route = refl
   at-each x Secret = refl
 
+  -- what is made for each type is there
+  pub at-per_type : (f : TypeName → X) (t : TypeName) → at (per_type f) t ≡ f t
+  at-per_type f Cluster = refl
+  at-per_type f Endpoint = refl
+  at-per_type f Listener = refl
+  at-per_type f Route = refl
+  at-per_type f Secret = refl
+
   -- two that agree at every type are equal
   pub same_at_each_type : (p q : PerType X) → ((t : TypeName) → at p t ≡ at q t) → p ≡ q
   same_at_each_type p q agree = λ i. record { cluster = agree Cluster i; endpoint = agree Endpoint i; listener = agree Listener i; route = agree Route i; secret = agree Secret i }
@@ -88,3 +96,11 @@ same_type Secret Endpoint = inr ((λ e. cc), refl)
 same_type Secret Listener = inr ((λ e. cc), refl)
 same_type Secret Route = inr ((λ e. cc), refl)
 same_type Secret Secret = inl (refl, refl)
+
+-- the word of a type is the word of no other
+pub word_again : (t : TypeName) → type_of_word (row t).word ≡ Some t
+word_again Cluster = refl
+word_again Endpoint = refl
+word_again Listener = refl
+word_again Route = refl
+word_again Secret = refl

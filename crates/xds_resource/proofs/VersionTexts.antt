@@ -7,6 +7,7 @@ use Rattle.std.proofs.lemmas.Str.Parse.{numerals_by_value, tells_digits, not_in_
 use Rattle.std.proofs.lemmas.Str.Pattern.{IsSplitOnceResult, split_after}
 use Rattle.std.proofs.lemmas.Fmt.{digits_decimal, decimal_injective}
 use Rattle.xds_resource.specs.Stamps.{IsStamp, version_text}
+use Rattle.xds_resource.proofs.BoolsAndLists.{same_tails}
 
 -- no byte of a list is a dash
 abbrev NoDash : List ℕ → Type 0
@@ -16,9 +17,6 @@ decimal_without_dash : (n : ℕ) → n < 2 ^ 64 → NoDash (decimal n)
 decimal_without_dash n small =
     let own = numerals_by_value (AllDigits 10) tells_digits in
     not_in_digits own (decimal n) 45 (digits_decimal own n small) (λ r. omega (arith, r))
-
-same_tails : (x y : ℕ) (xs ys : List ℕ) → x ∷ xs ≡ y ∷ ys → (x ≡ y) × (xs ≡ ys)
-same_tails x y xs ys e = (cc, cc)
 
 -- what stands before the first dash, and what stands after it
 same_parts : (xs us ys vs : List ℕ) → NoDash xs → NoDash us → xs ++ 45 ∷ ys ≡ us ++ 45 ∷ vs → (xs ≡ us) × (ys ≡ vs)

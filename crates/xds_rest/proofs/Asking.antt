@@ -9,20 +9,6 @@ use Rattle.xds_core.specs.Steps.{Core, step, rested}
 use Rattle.xds_rest.specs.Posts.{HttpReply, Asked, Finished, Asks, without_body, IsAskedBy}
 use Rattle.xds_rest.specs.Replies.{IfPoll, http_of, reply_to, IsReplyBy}
 
--- what holds anyhow is said of a poll
-pub anyhow : (e : Event) (P : Type 0) → P → IfPoll e (λ _ _ _ _. P)
-anyhow Open P p = tt
-anyhow (Request n m) P p = tt
-anyhow (Poll n which) P p = tt
-anyhow (Owes n which) P p = tt
-anyhow (Close n) P p = tt
-anyhow (Put t r groups) P p = tt
-anyhow (Delete t name) P p = tt
-anyhow (Merge b) P p = tt
-anyhow Snapshot P p = tt
-anyhow (Rest t names version cluster) P p = p
-anyhow (Since marks) P p = tt
-
 abbrev seen_or : Reply → Result (Reply × Core) Refusal → Reply
 seen_or other (Ok p) = p.0
 seen_or other (Err e) = other

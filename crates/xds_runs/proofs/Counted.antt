@@ -13,7 +13,8 @@ use Rattle.xds_resource.specs.declared.refusal.Refusal.TheVariants.{CounterSpent
 use Rattle.xds_resource.specs.PerType.{at, each}
 use Rattle.xds_resource.specs.Stamps.{max_counter}
 use Rattle.xds_resource.specs.Writes.{StampedWrite, text_cmp}
-use Rattle.xds_resource.proofs.TypesApart.{at-each}
+use Rattle.xds_resource.proofs.TypesApart.{at-each, at-per_type}
+use Rattle.xds_resource.proofs.Refusing.{unless_once}
 use Rattle.xds_catalogue.specs.Holdings.{Entries, Holdings, nothing_held, IsCatalogue, catalogue_of}
 use Rattle.xds_catalogue.specs.Changes.{surpasses, is_news, changes_after}
 use Rattle.xds_catalogue.specs.Joins.{joined}
@@ -21,10 +22,9 @@ use Rattle.xds_catalogue.proofs.Catalogues.{best-entries_of, catalogue_of-IsCata
 use Rattle.xds_catalogue.proofs.News.{changes_after-same, changes_after-le}
 use Rattle.xds_catalogue.proofs.OneWrite.{changed, joined-news, joined-old, joined-none}
 use Rattle.xds_core.specs.Stores.{Store, Batch, merging, merged, is_spent, grown, all_entries}
-use Rattle.xds_core.proofs.StepLaws.{unless_once}
 use Rattle.xds_cache.specs.Faults.{Test}
 use Rattle.xds_world.specs.Worlds.{placed, happens}
-use Rattle.xds_world.proofs.Replicas.{mapped_some, bound_some, if_some, at-per_type}
+use Rattle.xds_world.proofs.Replicas.{mapped_some, bound_some, if_some}
 use Rattle.xds_runs.specs.Runs.{Moment, Begin, Occur, Keep, Miss, Runs, no_run, are_new, begun, stored_by, missed, brings_a_replica, in_run, occurs, runs_after, runs}
 use Rattle.xds_runs.proofs.Moments.{unless_some, stored_is}
 

@@ -1,6 +1,7 @@
 -- A replica of a run holds what was stored where the run began, or greater writes, until the run ends.
-use Rattle.std.proofs.Common.{◌≡◌, ◌≢◌, ◌⊎◌, inl, inr, ℕ, List, [], ◌∷◌, ◌++◌, Bool, true, false, Option, Some, None, Ok, refl, sym, ap, subst, ◌∙◌}
-use Rattle.std.specs.Prelude.{◌||◌, if◌then◌else◌, is_none, nat_lt, not, ◌&&◌, option_map}
+use Rattle.std.proofs.Common.{◌≡◌, ◌≢◌, ◌⊎◌, inl, inr, ℕ, List, [], ◌∷◌, ◌++◌, true, false, Option, Some, None, Ok, refl, sym, ap, subst, ◌∙◌}
+use Rattle.std.proofs.lemmas.Bool.{or_parts}
+use Rattle.std.specs.Prelude.{if◌then◌else◌, is_none, nat_lt, not, ◌&&◌, option_map}
 use Rattle.std.specs.Option.{option_map_or}
 use Rattle.std.specs.List.{list_any}
 use Rattle.std.specs.Ordering.{nat_cmp}
@@ -14,7 +15,8 @@ use Rattle.xds_resource.specs.PerType.{at, with_at}
 use Rattle.xds_resource.specs.Resources.{written, deleted}
 use Rattle.xds_resource.specs.Stamps.{max_writer}
 use Rattle.xds_resource.specs.Writes.{StampedWrite}
-use Rattle.xds_resource.proofs.TypesApart.{same_type, at-with_at, at-with_at_other}
+use Rattle.xds_resource.proofs.TypesApart.{same_type, at-with_at, at-with_at_other, at-per_type}
+use Rattle.xds_resource.proofs.Refusing.{unless_once}
 use Rattle.xds_catalogue.specs.Holdings.{Holdings, IsCatalogue}
 use Rattle.xds_catalogue.specs.Joins.{IsAbove, joined}
 use Rattle.xds_catalogue.specs.Local.{next_counter}
@@ -24,11 +26,11 @@ use Rattle.xds_core.specs.Stores.{Store, merging, merged, is_spent, grown, putti
 use Rattle.xds_core.specs.Events.{Event, Open, Request, Poll, Owes, Close, Put, Delete, Merge, Snapshot, Rest, Since, Reply, Written, Merged}
 use Rattle.xds_core.specs.Steps.{Core, step, fresh as fresh_core}
 use Rattle.xds_core.specs.Laws.{is_write}
-use Rattle.xds_core.proofs.StepLaws.{done_with, put_is, delete_is, unless_once}
+use Rattle.xds_core.proofs.StepLaws.{done_with, put_is, delete_is}
 use Rattle.xds_cache.specs.Faults.{Test}
 use Rattle.xds_world.specs.Worlds.{Site, World, recorded, happens, placed}
 use Rattle.xds_world.specs.Journal.{event_at}
-use Rattle.xds_world.proofs.Replicas.{never, some_is, both_parts, none_there, answered, unwritten, mapped_some, bound_some, if_some, on_link_some, at-per_type}
+use Rattle.xds_world.proofs.Replicas.{never, some_is, both_parts, none_there, answered, unwritten, mapped_some, bound_some, if_some, on_link_some}
 use Rattle.xds_world.proofs.Origins.{SitesCome, sites_come}
 use Rattle.xds_runs.specs.Runs.{Moment, Begin, Occur, Keep, Miss, Runs, no_run, is_number, begun, stored_by, missed_on, missed, brings_a_replica, in_run, occurs, runs_after, runs}
 use Rattle.xds_runs.specs.Claims.{PutResourcesThen, is_beginning, KeepsWhatWasStored}
@@ -142,10 +144,6 @@ moment_keeps test s left (Miss c) r site within is has named =
     let gone = if_some (is_none (finmap.get s.now.sites at_link.1.replica)) _ made.0 at_link.2 in
     subst (λ (u : Runs). There u.now.sites r site.core.store) (sym made.2) (subst (λ (v : World). There v.sites r site.core.store) (sym gone.1) (site, has, gains_itself site.core.store named))
 
-none_begins : (a b : Bool) → (a || b) ≡ false → (a ≡ false) × (b ≡ false)
-none_begins true b is = absurd cc
-none_begins false b is = (refl, is)
-
 keeps_or : (test : Test) (s : Runs) (m : Moment) (ms : List Moment) (r : ℕ) (site : Site) (o : Option Runs) → occurs test s m ≡ o → is_beginning m ≡ false → finmap.get s.now.sites r ≡ Some site → AllNamed site.core.store
     → ((u : Runs) (y : Site) → finmap.get u.now.sites r ≡ Some y → AllNamed y.core.store → There (runs_after test u ms).now.sites r y.core.store) → There (runs_after test (option_map_or (λ u. u) o s) ms).now.sites r site.core.store
 keeps_or test s m ms r site None is within has named later = later s site has named
@@ -157,7 +155,7 @@ keeps_or test s m ms r site (Some left) is within has named later =
 keeps_after : (test : Test) (ms : List Moment) (s : Runs) (r : ℕ) (site : Site) → list_any is_beginning ms ≡ false → finmap.get s.now.sites r ≡ Some site → AllNamed site.core.store → There (runs_after test s ms).now.sites r site.core.store
 keeps_after test [] s r site within has named = (site, has, gains_itself site.core.store named)
 keeps_after test (m ∷ ms) s r site within has named =
-    let parts = none_begins (is_beginning m) (list_any is_beginning ms) within in
+    let parts = or_parts (is_beginning m) (list_any is_beginning ms) within in
     keeps_or test s m ms r site (occurs test s m) refl parts.0 has named (λ u y. keeps_after test ms u r y parts.1)
 
 -- rule: greatest-write

@@ -1,5 +1,6 @@
 -- Runs are one list of happenings, moment by moment.
 use Rattle.std.proofs.Common.{◌≡◌, inl, inr, ℕ, zero, suc, List, [], ◌∷◌, ◌++◌, Bool, true, false, true≢false, not, ◌&&◌, ◌||◌, Option, Some, None, Result, Ok, Err, refl, sym, ap, subst, ◌∙◌, append-nil, append_assoc}
+use Rattle.std.proofs.lemmas.Bool.{not-true, eq-eqb}
 use Rattle.std.specs.Prelude.{◌==◌, if◌then◌else◌, is_none, option_map}
 use Rattle.std.specs.Option.{option_and_then, option_map_or}
 use Rattle.std.specs.Ordering.{nat_cmp}
@@ -20,13 +21,12 @@ use Rattle.xds_world.specs.Happenings.{Happening, AddReplica, Snapshot, Merge, L
 use Rattle.xds_world.specs.Worlds.{Site, Link, Peer, World, empty_world, recorded, answered_at, at_site, happened_at, placed, pooled, with_peer, is_free, happens, after, world}
 use Rattle.xds_world.specs.Claims.{PutResources}
 use Rattle.xds_world.proofs.Replicas.{never, some_is, mapped_some, bound_some, both_parts, if_some, on_link_some, none_there}
-use Rattle.xds_world.proofs.Ranges.{opposite}
 use Rattle.xds_world.proofs.Everyone.{stream_at}
 use Rattle.xds_world.proofs.Sure.{sure}
 use Rattle.xds_world.proofs.Plays.{after_both}
 use Rattle.xds_runs.specs.Runs.{Moment, Begin, Occur, Keep, Miss, Runs, no_run, is_number, are_new, with_taken, arrivals, ground, begun, stored_by, missed_on, missed, brings_a_replica, in_run, occurs, runs_after, runs}
 use Rattle.xds_runs.specs.Claims.{PutsAResourceThen, PutResourcesThen}
-use Rattle.xds_runs.proofs.Within.{Sites, Pool, wide, is_among, Within, got, itself, ended_within, keeper_within, added_within, more, placed_behind, none_at_zero}
+use Rattle.xds_runs.proofs.Within.{Sites, Pool, wide, is_among, Within, got, ended_within, keeper_within, added_within, more, placed_behind, none_at_zero}
 use Rattle.xds_runs.proofs.Events.{on_link_is, HappensThere, happens_there}
 
 -- ---- lists
@@ -89,7 +89,7 @@ arrive test store stored [] taken w sites pool new x = nothing_follows test stor
 arrive test store stored (r ∷ rs) taken w sites pool new x =
     let parts = both_parts (is_number r && not (is_among r taken)) (are_new (r ∷ taken) rs) new in
     let number = both_parts (is_number r) (not (is_among r taken)) parts.0 in
-    let unknown : is_among r taken ≡ false = opposite (is_among r taken) number.1 in
+    let unknown : is_among r taken ≡ false = not-true (is_among r taken) number.1 in
     let site : Site = record { core = fresh_core r; journal = [] } in
     let come : World = record w { sites = finmap.insert w.sites r site } in
     let whole : World = wide w sites pool in
@@ -209,7 +209,7 @@ one_start test store number =
         apart = finmap.get-empty nat_cmp store;
         among = λ r y is.
             elim (get-inserted nat_cmp_total nat_cmp-IsAntisymmetric finmap.empty store site r) [
-              | inl same ↦ ap (λ n. (store == n) || false) (sym same.0) ∙ ap (λ b. b || false) (itself store)
+              | inl same ↦ ap (λ n. (store == n) || false) (sym same.0) ∙ ap (λ b. b || false) (eq-eqb store store refl)
               | inr other ↦ absurd (never y (sym (other.1 ∙ finmap.get-empty nat_cmp r) ∙ is))
             ];
         earlier = [];

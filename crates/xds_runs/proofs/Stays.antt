@@ -7,16 +7,17 @@ use Rattle.xds_resource.specs.declared.types.TypeName.{TypeName}
 use Rattle.xds_resource.specs.declared.refusal.Refusal.TheVariants.{CounterSpent}
 use Rattle.xds_resource.specs.PerType.{at}
 use Rattle.xds_resource.specs.Writes.{StampedWrite}
+use Rattle.xds_resource.proofs.Refusing.{unless_once}
+use Rattle.xds_resource.proofs.TypesApart.{at-per_type}
 use Rattle.xds_catalogue.specs.Holdings.{Entries, Holdings, IsCatalogue, catalogue_of}
 use Rattle.xds_catalogue.specs.Joins.{IsAbove, joined}
 use Rattle.xds_catalogue.proofs.Catalogues.{catalogue_of-entries, catalogue_of-IsCatalogue}
 use Rattle.xds_catalogue.proofs.JoinLaws.{made_of_its_writes, joins_the_writes, join_is_above}
 use Rattle.xds_catalogue.proofs.OneWrite.{joined-none}
 use Rattle.xds_core.specs.Stores.{Store, Batch, merging, merged, is_spent, grown}
-use Rattle.xds_core.proofs.StepLaws.{unless_once}
 use Rattle.xds_cache.specs.Faults.{Test}
 use Rattle.xds_world.specs.Worlds.{placed, happens}
-use Rattle.xds_world.proofs.Replicas.{mapped_some, bound_some, if_some, at-per_type}
+use Rattle.xds_world.proofs.Replicas.{mapped_some, bound_some, if_some}
 use Rattle.xds_runs.specs.Runs.{Moment, Begin, Occur, Keep, Miss, Runs, no_run, are_new, begun, stored_by, missed, brings_a_replica, in_run, occurs, runs_after, runs}
 use Rattle.xds_runs.specs.Claims.{StoredStays}
 use Rattle.xds_runs.proofs.Moments.{unless_some, stored_is, runs_both}

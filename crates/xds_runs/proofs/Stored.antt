@@ -1,5 +1,6 @@
 -- A replica holds what is stored where its run begins.
 use Rattle.std.proofs.Common.{◌≡◌, ◌≢◌, inl, inr, ℕ, ◌≤◌, List, [], ◌∷◌, Bool, true, false, true≢false, not, ◌&&◌, ◌||◌, Option, Some, None, Ok, refl, sym, ap, subst, ◌∙◌}
+use Rattle.std.proofs.lemmas.Bool.{or_right, eq-eqb, not-true}
 use Rattle.std.specs.Prelude.{◌==◌, if◌then◌else◌, is_none, option_map, Contains}
 use Rattle.std.specs.Option.{option_and_then, option_map_or}
 use Rattle.std.specs.Ordering.{nat_cmp}
@@ -13,7 +14,8 @@ use Rattle.xds_resource.specs.Refusals.{unless_refused}
 use Rattle.xds_resource.specs.Stamps.{max_counter}
 use Rattle.xds_resource.specs.Writes.{StampedWrite}
 use Rattle.xds_resource.proofs.BestWrites.{Contains-cons_cases}
-use Rattle.xds_resource.proofs.TypesApart.{at-each}
+use Rattle.xds_resource.proofs.TypesApart.{at-each, at-per_type}
+use Rattle.xds_resource.proofs.BoolsAndLists.{none_in}
 use Rattle.xds_catalogue.specs.Holdings.{Holdings, nothing_held, catalogue_of}
 use Rattle.xds_catalogue.specs.Joins.{joined}
 use Rattle.xds_catalogue.proofs.Lookups.{get-inserted}
@@ -26,14 +28,12 @@ use Rattle.xds_world.specs.Happenings.{AddReplica, Merge}
 use Rattle.xds_world.specs.Worlds.{Site, World, recorded, answered_at, at_site, happened_at, placed, is_free, happens, after}
 use Rattle.xds_world.specs.Knows.{knows}
 use Rattle.xds_world.specs.Claims.{writes_of}
-use Rattle.xds_world.proofs.Replicas.{never, answered, mapped_some, bound_some, both_parts, joined_best, at-per_type}
-use Rattle.xds_world.proofs.Ranges.{opposite}
-use Rattle.xds_world.proofs.Origins.{none_in}
+use Rattle.xds_world.proofs.Replicas.{never, answered, mapped_some, bound_some, both_parts, joined_best}
 use Rattle.xds_world.proofs.Sure.{sure}
 use Rattle.xds_world.proofs.Headline.{headline}
 use Rattle.xds_runs.specs.Runs.{Moment, Runs, is_number, are_new, arrivals, ground, runs}
 use Rattle.xds_runs.specs.Claims.{PutResourcesThen, BeginsWithWhatIsStored}
-use Rattle.xds_runs.proofs.Within.{is_among, got, passed, itself, or_right}
+use Rattle.xds_runs.proofs.Within.{is_among, got, passed}
 use Rattle.xds_runs.proofs.Moments.{absent, One, one_of}
 use Rattle.xds_runs.proofs.Counted.{stored_fits}
 
@@ -56,7 +56,7 @@ arrivals_keep : (test : Test) (rs taken : List ℕ) (w : World) (r : ℕ) → ar
 arrivals_keep test [] taken w r new among = refl
 arrivals_keep test (q ∷ rs) taken w r new among =
     let parts = both_parts (is_number q && not (is_among q taken)) (are_new (q ∷ taken) rs) new in
-    let unknown : is_among q taken ≡ false = opposite (is_among q taken) (both_parts (is_number q) (not (is_among q taken)) parts.0).1 in
+    let unknown : is_among q taken ≡ false = not-true (is_among q taken) (both_parts (is_number q) (not (is_among q taken)) parts.0).1 in
     let other : q ≢ r = λ e. true≢false (sym among ∙ ap (λ n. is_among n taken) (sym e) ∙ unknown) in
     let come : World = option_map_or (λ v. v) (happens test w (AddReplica q)) w in
     let now : World = option_map_or (λ v. v) (happens test come (Merge q 1)) come in
@@ -100,7 +100,7 @@ module _ (test : Test) (w : World) (q n : ℕ) (batch : Batch) (site_free : is_f
   came_among : (taken : List ℕ) → ((r : ℕ) (s : Site) → finmap.get w.sites r ≡ Some s → is_among r taken ≡ true) → (r : ℕ) (s : Site) → finmap.get came.sites r ≡ Some s → is_among r (q ∷ taken) ≡ true
   came_among taken among r s has =
       elim (get-inserted nat_cmp_total nat_cmp-IsAntisymmetric coming.sites q full r) [
-        | inl same ↦ ap (λ k. (q == k) || is_among k taken) (sym same.0) ∙ ap (λ b. b || is_among q taken) (itself q)
+        | inl same ↦ ap (λ k. (q == k) || is_among k taken) (sym same.0) ∙ ap (λ b. b || is_among q taken) (eq-eqb q q refl)
         | inr other ↦ or_right (q == r) (is_among r taken) (among r s (sym (other.1 ∙ passed w.sites q first r other.0) ∙ has))
       ]
 
@@ -110,14 +110,14 @@ begins_holding test [] taken w n batch r new listed pool_is among unspent = absu
 begins_holding test (q ∷ rs) taken w n batch r new listed pool_is among unspent =
     let parts = both_parts (is_number q && not (is_among q taken)) (are_new (q ∷ taken) rs) new in
     let number = both_parts (is_number q) (not (is_among q taken)) parts.0 in
-    let unknown : is_among q taken ≡ false = opposite (is_among q taken) number.1 in
+    let unknown : is_among q taken ≡ false = not-true (is_among q taken) number.1 in
     let none : finmap.get w.sites q ≡ None = absent w.sites taken q (finmap.get w.sites q) (among q) unknown refl in
     let free : is_free w q ≡ true = λ i. number.0 i && is_none (none i) in
     let left : World = came test w q n batch free pool_is unspent in
     subst (λ v. Holding v r (merged (each nothing_held) batch)) (sym (comes_first test w q n batch free pool_is unspent rs)) (elim (Contains-cons_cases q r rs listed) [
       | inl same ↦ (
         full test w q n batch free pool_is unspent,
-        arrivals_keep test rs (q ∷ taken) left r parts.1 (ap (λ k. (q == k) || is_among k taken) (sym same) ∙ ap (λ b. b || is_among q taken) (itself q))
+        arrivals_keep test rs (q ∷ taken) left r parts.1 (ap (λ k. (q == k) || is_among k taken) (sym same) ∙ ap (λ b. b || is_among q taken) (eq-eqb q q refl))
             ∙ ap (finmap.get left.sites) (sym same) ∙ got (finmap.insert w.sites q (record { core = fresh_core q; journal = [] })) q (full test w q n batch free pool_is unspent),
         refl,
       )

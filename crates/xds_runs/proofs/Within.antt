@@ -7,7 +7,7 @@ use Rattle.std.specs.Ordering.{nat_cmp}
 use Rattle.std.specs.Cmp.{nat_cmp_total}
 use Rattle.std.specs.FinMap as finmap
 use Rattle.std.specs.FinMap.{FinMap, nat_cmp-IsAntisymmetric}
-use Rattle.std.proofs.lemmas.Bool.Decides.{eqb_tells}
+use Rattle.std.proofs.lemmas.Bool.{or_right, eq-eqb}
 use Rattle.xds_catalogue.proofs.Lookups.{get-inserted}
 use Rattle.xds_core.specs.Stores.{Store, Batch}
 use Rattle.xds_core.specs.Events.{Event, Reply}
@@ -58,13 +58,6 @@ passed m r x q other =
 -- what stands where something does, and where nothing does, stands at two places
 pub two_places : {X : Type 0} (m : FinMap nat_cmp X) (r q : ℕ) (x : X) → finmap.get m r ≡ Some x → finmap.get m q ≡ None → r ≢ q
 two_places m r q x there none same = never x (sym none ∙ ap (finmap.get m) (sym same) ∙ there)
-
-pub itself : (r : ℕ) → (r == r) ≡ true
-itself r = elim (eqb_tells r r) [ inl same ↦ same.0 | inr other ↦ absurd (other.1 refl) ]
-
-pub or_right : (a b : Bool) → b ≡ true → (a || b) ≡ true
-or_right true b is = refl
-or_right false b is = is
 
 -- ---- one replica changed
 
@@ -154,7 +147,7 @@ module _ (store : ℕ) (taken : List ℕ) (stored : Store) where
         apart = passed own r site store other ∙ x.apart;
         among = λ q s is.
             elim (get-inserted nat_cmp_total nat_cmp-IsAntisymmetric sites r site q) [
-              | inl same ↦ ap (λ n. (r == n) || is_among n taken) (sym same.0) ∙ ap (λ b. b || is_among r taken) (itself r)
+              | inl same ↦ ap (λ n. (r == n) || is_among n taken) (sym same.0) ∙ ap (λ b. b || is_among r taken) (eq-eqb r r refl)
               | inr apart ↦ or_right (r == q) (is_among q taken) (x.among q s (sym apart.1 ∙ is))
             ];
         earlier = x.earlier;

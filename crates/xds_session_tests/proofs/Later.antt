@@ -1,5 +1,5 @@
 -- That the list of a client suffices after each step of a test: after a request, and once a catalogue changed.
-use Rattle.std.proofs.Common.{◌≡◌, ℕ, List, [], ◌∷◌, Bool, true, false, Option, Some, None, Result, Ok, Err, refl, sym, ap, subst, ◌∙◌}
+use Rattle.std.proofs.Common.{◌≡◌, ℕ, List, [], ◌∷◌, Option, Some, None, Result, Ok, Err, refl, sym, ap, subst, ◌∙◌}
 use Rattle.std.specs.Prelude.{◌==◌, not, nat_lt, if◌then◌else◌, IfSome, OnOk, OnErr}
 use Rattle.std.specs.Option.{option_and_then}
 use Rattle.std.specs.FinMap as finmap
@@ -10,6 +10,7 @@ use Rattle.xds_resource.specs.Refusals.{Gives}
 use Rattle.xds_resource.specs.Resources.{NamedBody, written, deleted}
 use Rattle.xds_resource.specs.Stamps.{max_counter}
 use Rattle.xds_resource.specs.Writes.{StampedWrite, text_cmp}
+use Rattle.xds_resource.proofs.Refusing.{unless_once, unless_twice, unless_thrice}
 use Rattle.xds_interest.specs.Interests.{Selection, covers}
 use Rattle.xds_interest.specs.Touches.{Touch, touches, sotw_touch}
 use Rattle.xds_interest.proofs.AskedLaws.{sotw_touch_is_a_set}
@@ -23,10 +24,9 @@ use Rattle.xds_ledger.specs.Owed.{live_version, version_shown}
 use Rattle.xds_ledger.specs.Listed.{IsLater}
 use Rattle.xds_ledger.specs.Offers.{Offer, offer}
 use Rattle.xds_ledger.proofs.Fitting.{new_list_fits}
-use Rattle.xds_ledger.proofs.Foretelling.{sent_books_fit, later_books_fit}
+use Rattle.xds_ledger.proofs.Foretelling.{sent_books_fit}
 use Rattle.xds_ledger.proofs.Later.{later_itself, joined_is_later}
 use Rattle.xds_ledger.specs.Lists.{Books, new_books, sent_books, Fits, FitsNext, Kept, SessionFits, StaysFit, StaysPresent}
-use Rattle.xds_ledger.proofs.Keeping.{later_session_fits}
 
 -- ---- a catalogue that changes
 
@@ -40,18 +40,6 @@ unchanged h named = (named, later_itself h)
 joined_follows : (h later : Holdings) (ws : List StampedWrite) → IsCatalogue h.entries → later ≡ joined h ws → Follows h later
 joined_follows h later ws named is = subst (Follows h) (sym is) (catalogue_of-IsCatalogue _, joined_is_later h ws named)
 
-once : {A : Type 0} (a : Bool) (e : Refusal) (x y : A) → (if a then Err e else Ok x) ≡ Ok y → y ≡ x
-once true e x y is = absurd cc
-once false e x y is = cc
-
-twice : {A : Type 0} (a b : Bool) (e f : Refusal) (x y : A) → (if a then Err e else (if b then Err f else Ok x)) ≡ Ok y → y ≡ x
-twice true b e f x y is = absurd cc
-twice false b e f x y is = once b f x y is
-
-thrice : {A : Type 0} (a b d : Bool) (e f g : Refusal) (x y : A) → (if a then Err e else (if b then Err f else (if d then Err g else Ok x))) ≡ Ok y → y ≡ x
-thrice true b d e f g x y is = absurd cc
-thrice false b d e f g x y is = twice b d f g x y is
-
 -- before anything was put
 pub new_named : (h : Holdings) → h ≡ nothing_held → IsCatalogue h.entries
 new_named h held q = subst (λ (o : Option StampedWrite). IfSome o (λ w. w.name ≡ q)) (sym (ap (λ (g : Holdings). finmap.get g.entries q) held ∙ finmap.get-empty text_cmp q)) tt
@@ -64,7 +52,7 @@ pub put_follows : {X : Type 0} (h later : Holdings) (body : NamedBody) (groups :
     → IsCatalogue h.entries → Follows h later
 put_follows h later body groups writer (Ok x) counter gives same named =
     let ws = written (next_counter h) writer body groups ∷ [] in
-    joined_follows h later ws named (ap (λ p. p.1) (twice (greatest_counter h.entries == max_counter) (h.changes == max_counter) CounterSpent CounterSpent (next_counter h, joined h ws) (counter x, later) gives))
+    joined_follows h later ws named (ap (λ p. p.1) (unless_twice (greatest_counter h.entries == max_counter) (h.changes == max_counter) CounterSpent CounterSpent (next_counter h, joined h ws) (counter x, later) gives))
 put_follows h later body groups writer (Err e) counter gives same named = kept_follows h later same named
 
 -- once one was deleted, or not
@@ -73,13 +61,13 @@ pub delete_follows : {X : Type 0} (h later : Holdings) (name : List ℕ) (writer
 delete_follows h later name writer (Ok x) counter gives same named =
     let ws = deleted (next_counter h) writer name ∷ [] in
     joined_follows h later ws named
-    (ap (λ p. p.1) (thrice (not (has_live h.entries name)) (greatest_counter h.entries == max_counter) (h.changes == max_counter) NotFound CounterSpent CounterSpent (next_counter h, joined h ws) (counter x, later) gives))
+    (ap (λ p. p.1) (unless_thrice (not (has_live h.entries name)) (greatest_counter h.entries == max_counter) (h.changes == max_counter) NotFound CounterSpent CounterSpent (next_counter h, joined h ws) (counter x, later) gives))
 delete_follows h later name writer (Err e) counter gives same named = kept_follows h later same named
 
 -- once a write was joined, or not
 pub join_follows : (h later : Holdings) (ws : List StampedWrite) (r : Result ℕ Refusal) → Gives (λ n. (n, later)) r (joining h ws) → OnErr r (later ≡ h) → IsCatalogue h.entries → Follows h later
 join_follows h later ws (Ok n) gives same named =
-    joined_follows h later ws named (ap (λ p. p.1) (once (nat_lt max_counter (joined h ws).changes) CounterSpent (changes_by h ws, joined h ws) (n, later) gives))
+    joined_follows h later ws named (ap (λ p. p.1) (unless_once (nat_lt max_counter (joined h ws).changes) CounterSpent (changes_by h ws, joined h ws) (n, later) gives))
 join_follows h later ws (Err e) gives same named = kept_follows h later same named
 
 -- ---- a session
@@ -88,10 +76,6 @@ join_follows h later ws (Err e) gives same named = kept_follows h later same nam
 pub session_takes : {X : Type 0} (v : VariantName) (t : TypeName) (h : Holdings) (old new : Kept) (r : Result X Refusal) → OnOk r (StaysFit v t old new) → OnErr r (new ≡ old) → SessionFits v t h old → SessionFits v t h new
 session_takes v t h old new (Ok x) stays same fits = stays h fits
 session_takes v t h old new (Err e) stays same fits = subst (SessionFits v t h) (sym same) fits
-
--- once the catalogue changed
-pub session_follows : (v : VariantName) (t : TypeName) (h later : Holdings) (k : Kept) → Follows h later → SessionFits v t h k → SessionFits v t later k
-session_follows v t h later k follows fits = later_session_fits v t h later k follows.1 fits
 
 -- ---- a ledger
 
@@ -113,14 +97,7 @@ pub books_taken : (v : VariantName) (t : TypeName) (old new : Selection) (h : Ho
     → Fits v t new h after
 books_taken v t old new h before after touched next same is fits = next old new h fits (stays_present old new h before.listed.mark touched same is)
 
-pub books_kept : (v : VariantName) (t : TypeName) (s : Selection) (h : Holdings) (before after : Books) → after ≡ before → Fits v t s h before → Fits v t s h after
-books_kept v t s h before after same fits = subst (Fits v t s h) (sym same) fits
-
 -- once an offer was sent
 pub books_sent : (v : VariantName) (t : TypeName) (s : Selection) (h : Holdings) (before after : Books) (o : Offer) (nonce : ℕ) → o ≡ offer v t s h.entries before.account.beliefs → after ≡ sent_books before o nonce
     → Fits v t s h before → Fits v t s h after
 books_sent v t s h before after o nonce made is fits = subst (Fits v t s h) (sym (is ∙ ap (λ x. sent_books before x nonce) made)) (sent_books_fit v t s h before nonce fits)
-
--- once the catalogue changed
-pub books_follow : (v : VariantName) (t : TypeName) (s : Selection) (h later : Holdings) (b : Books) → Follows h later → Fits v t s h b → Fits v t s later b
-books_follow v t s h later b follows fits = later_books_fit v t s h later b follows.1 fits

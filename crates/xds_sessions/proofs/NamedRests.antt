@@ -1,5 +1,5 @@
 -- A poll without a stream: one that wants the names of a list, and one of the star.
-use Rattle.std.proofs.Common.{◌≡◌, ℕ, List, [], ◌∷◌, ◌++◌, Bool, true, false, Option, Some, None, Bor, refl, sym, ap, ◌∙◌}
+use Rattle.std.proofs.Common.{◌≡◌, ℕ, List, [], ◌∷◌, ◌++◌, false, Some, None, Bor, refl, sym, ap, ◌∙◌}
 use Rattle.std.specs.Prelude.{◌&&◌, bytes_eq, codes, if◌then◌else◌}
 use Rattle.std.specs.List.{filter_map}
 use Rattle.std.specs.List.Sorted.{IsStrictlySortedBy}
@@ -40,9 +40,3 @@ pub named_answer : (replica : ℕ) (t : TypeName) (h : Holdings) (s : Selection)
 named_answer replica t h s version d unstarred is =
     ap (λ (x : Drafted). Some x) is
     ∙ sym (ap (λ b. if (b && bytes_eq version (interest_version replica h.changes s)) then None else Some (whole replica t h s)) unstarred)
-
--- and one of the star is, unless its version is the present one
-pub starred_answer : (replica : ℕ) (t : TypeName) (h : Holdings) (s : Selection) (version : List ℕ) (b : Bool) (d : Option Drafted) → s.star ≡ true → bytes_eq version (interest_version replica h.changes s) ≡ b
-    → d ≡ (if b then None else Some (whole replica t h s)) → d ≡ unless_present replica t h s version
-starred_answer replica t h s version b d starred is made =
-    made ∙ sym (ap (λ x. if x then None else Some (whole replica t h s)) ((λ i. starred i && bytes_eq version (interest_version replica h.changes s)) ∙ is))

@@ -1,14 +1,12 @@
 -- That what the code makes is the response, and what it leaves is the session.
-use Rattle.std.proofs.Common.{◌≡◌, ℕ, List, [], ◌∷◌, ◌++◌, Bool, true, false, Option, Some, None, refl, sym, ap, ◌∙◌, append_assoc, not}
+use Rattle.std.proofs.Common.{◌≡◌, ℕ, List, Bool, true, Option, sym, ap, ◌∙◌, not}
 use Rattle.std.specs.Prelude.{if◌then◌else◌}
-use Rattle.std.specs.List.{cons_option}
 use Rattle.std.specs.FinMap as finmap
 use Rattle.xds_resource.specs.declared.types.TypeName.{TypeName}
 use Rattle.xds_resource.specs.Writes.{StampedWrite, text_cmp}
 use Rattle.xds_interest.specs.Asked.{Asked, sotw_asked}
 use Rattle.std.specs.FinSet as set
 use Rattle.xds_interest.specs.Touches.{Touch, sotw_touch}
-use Rattle.xds_message.specs.Drafts.{with_text}
 use Rattle.xds_ledger.specs.declared.variant.VariantName.TheVariants.{StateOfTheWorld}
 use Rattle.xds_ledger.specs.Ledgers.{Account, settled, touch, resume}
 use Rattle.xds_ledger.specs.Sessions.{Session, is_stale}
@@ -17,10 +15,6 @@ use Rattle.xds_sessions.specs.SotwPolls.{take_list}
 
 abbrev pub body_of : StampedWrite → Option (List ℕ)
 body_of w = w.body
-
-pub texts_step : (bodies : List (List ℕ)) (body : Option (List ℕ)) (rest : List (List ℕ)) → with_text bodies body ++ rest ≡ bodies ++ cons_option body rest
-texts_step bodies None rest = refl
-texts_step bodies (Some b) rest = append_assoc bodies (b ∷ []) rest
 
 -- a request that is taken leaves what is kept of the names, and the account with its names taken
 pub list_taken : (t : TypeName) (s : Session) (nonce : List ℕ) (rejects : Bool) (names : List (List ℕ)) (asked : Asked) (account : Account) → not (is_stale s nonce) ≡ true → asked ≡ sotw_asked t s.asked names
@@ -40,11 +34,3 @@ pub list_taken_by : (t : TypeName) (s before : Session) (nonce : List ℕ) (reje
 list_taken_by t s before nonce rejects names asked account interest touched mentioned same holds kept covers touches says left =
     list_taken t s nonce rejects names asked account holds (kept ∙ ap (λ (x : Session). sotw_asked t x.asked names) same)
     (left ∙ (λ i. resume (touch (settled StateOfTheWorld t (same i).account nonce rejects) (covers i) ((touches ∙ (λ j. sotw_touch (same j).asked.interest (covers j))) i) ((says ∙ (λ j. (covers j).names)) i)) finmap.empty))
-
--- and one that isn't leaves the session
-pub list_ignored : (t : TypeName) (s : Session) (nonce : List ℕ) (rejects : Bool) (names : List (List ℕ)) → not (is_stale s nonce) ≡ false → s ≡ take_list t s nonce rejects names
-list_ignored t s nonce rejects names no_longer =
-    let a : Asked = sotw_asked t s.asked names in
-    let all : Session =
-    record { asked = a; account = resume (touch (settled StateOfTheWorld t s.account nonce rejects) a.interest (sotw_touch s.asked.interest a.interest) a.interest.names) finmap.empty } in
-    sym (ap (λ b. if b then all else s) no_longer)

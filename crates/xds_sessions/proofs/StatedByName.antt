@@ -11,10 +11,11 @@ use Rattle.std.specs.FinMap.Entries.{below_all, is_sorted}
 use Rattle.std.specs.FinSet as set
 use Rattle.xds_resource.specs.Writes.{StampedWrite, text_cmp}
 use Rattle.xds_resource.proofs.NameMaps.{has_text-keys}
-use Rattle.xds_resource.proofs.MadeMaps.{holds_first, holds_second}
+use Rattle.xds_resource.proofs.BoolsAndLists.{holds_first, holds_second}
 use Rattle.xds_interest.specs.Interests.{Selection, covers, is_open_to}
 use Rattle.xds_interest.proofs.Texts.{contains-from_texts}
 use Rattle.xds_message.specs.Drafts.{with_text}
+use Rattle.xds_message.proofs.DraftLemmas.{texts_step}
 use Rattle.xds_catalogue.specs.Holdings.{Entries, IsCatalogue}
 use Rattle.xds_catalogue.specs.Content.{is_live, is_shown, content, if_live, live_at}
 use Rattle.xds_catalogue.proofs.InOrder.{Ascend, content-names}
@@ -22,7 +23,7 @@ use Rattle.xds_ledger.specs.declared.entry.Due.{Due}
 use Rattle.xds_ledger.specs.Offers.{Offer}
 use Rattle.xds_sessions.specs.SotwPolls.{stated_bodies}
 use Rattle.xds_sessions.specs.SotwParts.{body_at, pushed_each}
-use Rattle.xds_sessions.proofs.SotwMade.{texts_step}
+use Rattle.xds_sessions.proofs.SotwMade.{body_of}
 
 -- ---- the names of an offer ascend
 
@@ -66,20 +67,17 @@ filter_alike p q (w ∷ ws) same = λ i. cond (same w i) (w ∷ filter_alike p q
 abbrev covered : Selection → StampedWrite → Bool
 covered s w = covers s w.name w.groups
 
-abbrev text_of : StampedWrite → Option (List ℕ)
-text_of w = w.body
-
 abbrev shown : Selection → List StampedWrite → List (List ℕ)
-shown s ws = filter_map text_of (filter (covered s) ws)
+shown s ws = filter_map body_of (filter (covered s) ws)
 
 live_step : (s : Selection) (n : List ℕ) (w : StampedWrite) (rest : List StampedWrite) (body : Option (List ℕ)) (c : Bool) → w.name ≡ n → w.body ≡ body → covers s n w.groups ≡ c
     → cons_option (if c then body else None) (shown s rest) ≡ shown s (cons_option (if is_some body then Some w else None) rest)
 live_step s n w rest None true named has is = refl
 live_step s n w rest None false named has is = refl
 live_step s n w rest (Some text) true named has is =
-    ap (λ o. cons_option o (shown s rest)) (sym has) ∙ ap (λ b. filter_map text_of (cond b (w ∷ filter (covered s) rest) (filter (covered s) rest))) (sym is ∙ ap (λ k. covers s k w.groups) (sym named))
+    ap (λ o. cons_option o (shown s rest)) (sym has) ∙ ap (λ b. filter_map body_of (cond b (w ∷ filter (covered s) rest) (filter (covered s) rest))) (sym is ∙ ap (λ k. covers s k w.groups) (sym named))
 live_step s n w rest (Some text) false named has is =
-    ap (λ b. filter_map text_of (cond b (w ∷ filter (covered s) rest) (filter (covered s) rest))) (sym is ∙ ap (λ k. covers s k w.groups) (sym named))
+    ap (λ b. filter_map body_of (cond b (w ∷ filter (covered s) rest) (filter (covered s) rest))) (sym is ∙ ap (λ k. covers s k w.groups) (sym named))
 
 at_name : (s : Selection) (n : List ℕ) (o : Option StampedWrite) (rest : List StampedWrite) → IfSome o (λ w. w.name ≡ n)
     → cons_option (option_and_then (λ w. if covers s n w.groups then w.body else None) o) (shown s rest) ≡ shown s (cons_option (option_and_then if_live o) rest)
@@ -105,8 +103,8 @@ stated_by_name m s o named =
     let names = finmap.keys o in
     let wanted : Selection = record { star = false; names = set.from_list names; cluster = s.cluster } in
     by_names m s names named
-    ∙ ap (λ ws. filter_map text_of (filter (covered s) ws)) (content-names m wanted names named refl refl (names_ascend (finmap.entries o) (finmap.entries_sorted o)))
-    ∙ ap (filter_map text_of)
+    ∙ ap (λ ws. filter_map body_of (filter (covered s) ws)) (content-names m wanted names named refl refl (names_ascend (finmap.entries o) (finmap.entries_sorted o)))
+    ∙ ap (filter_map body_of)
     (filter_twice (covered s) (is_shown wanted) (finmap.values m)
     ∙ filter_alike (λ w. is_shown wanted w && covered s w) (λ w. is_shown s w && is_some (finmap.get o w.name)) (finmap.values m)
     (λ w. either_test (is_live w) (set.contains (set.from_list names) w.name) (is_some (finmap.get o w.name)) (covered s w) (is_open_to w.groups s.cluster) (contains-from_texts names w.name ∙ has_text-keys o w.name))
@@ -130,4 +128,4 @@ none_offered o (w ∷ ws) none =
 pub all_pushed : (m : Entries) (s : Selection) (o : Offer) (bodies : List (List ℕ)) → IsCatalogue m ⊎ ([] ≡ finmap.entries o) → bodies ≡ pushed_each m s [] (finmap.keys o) → bodies ≡ stated_bodies m s o
 all_pushed m s o bodies (inl named) made = made ∙ each_pushed m s [] (finmap.keys o) ∙ stated_by_name m s o named
 all_pushed m s o bodies (inr none) made =
-    made ∙ ap (λ (es : List (List ℕ × Due)). pushed_each m s [] (map (λ e. e.0) es)) (sym none) ∙ sym (ap (filter_map text_of) (none_offered o (content m s) (sym none)))
+    made ∙ ap (λ (es : List (List ℕ × Due)). pushed_each m s [] (map (λ e. e.0) es)) (sym none) ∙ sym (ap (filter_map body_of) (none_offered o (content m s) (sym none)))

@@ -6,11 +6,13 @@ use Rattle.std.specs.Option.{option_map, option_map_or}
 use Rattle.std.specs.FinMap as finmap
 use Rattle.std.specs.FinMap.Entries.{below_all, is_sorted}
 use Rattle.std.proofs.lemmas.Map.Text.{is_eq-slice_cmp}
+use Rattle.std.proofs.lemmas.Bool.{and_parts, false≢true}
 use Rattle.xds_resource.specs.declared.any.AnyWrite.{AnyWrite}
 use Rattle.xds_resource.specs.Any.{resource_type, named_body, write_type, stamped_write}
 use Rattle.xds_resource.specs.Writes.{text_cmp}
 use Rattle.xds_resource.proofs.NameMaps.{bytes_eq_tells, bytes_eq_swap}
-use Rattle.xds_resource.proofs.MadeMaps.{holds_first, holds_second, find_below}
+use Rattle.xds_resource.proofs.MadeMaps.{find_below}
+use Rattle.xds_resource.proofs.BoolsAndLists.{holds_first, holds_second}
 use Rattle.xds_sources.specs.declared.reading.FileResource.{FileResource}
 use Rattle.xds_sources.specs.Differences.{Edit, puts, deletes, is_for_all, puts_body, stands, puts_of, deletes_of, Live, live_in, held_at, wanted_live, edit_key, edit_live, after, AreWantedByKey, AreHeldByKey, LeavesTheWanted}
 
@@ -78,23 +80,11 @@ deletes_leave wanted (e ∷ es) s k sorted keyed =
     (λ same. ap (λ n. is_some (finmap.get wanted n)) (bytes_eq_tells e.0 k same))
     ∙ ap (λ here. kept_at (finmap.get wanted k) (cond here (Some e.1) later) (s k)) (bytes_eq_swap e.0 k ∙ sym (is_eq-slice_cmp k e.0))
 
--- what stands puts the resource, for all clients
-both_left : (a b : Bool) → (a && b) ≡ true → a ≡ true
-both_left true b h = refl
-both_left false b h = h
-
-both_right : (a b : Bool) → (a && b) ≡ true → b ≡ true
-both_right true b h = h
-both_right false b h = absurd cc
-
-unless_false : {X : Type 0} → false ≡ true → X
-unless_false wrong = absurd cc
-
 stood_by : (b : Option (List ℕ)) (gs : List (List ℕ)) (body : List ℕ) → option_map_or (λ x. bytes_eq x body && is_for_all gs) b false ≡ true
     → option_map {U = Live} (λ x. record { body = x; groups = gs }) b ≡ Some (record { body = body; groups = [] })
-stood_by None gs body h = unless_false h
-stood_by (Some x) [] body h = ap (λ y. Some (record { body = y; groups = [] })) (bytes_eq_tells x body (both_left (bytes_eq x body) true h))
-stood_by (Some x) (g ∷ gs) body h = unless_false (both_right (bytes_eq x body) false h)
+stood_by None gs body h = absurd (false≢true h)
+stood_by (Some x) [] body h = ap (λ y. Some (record { body = y; groups = [] })) (bytes_eq_tells x body (and_parts (bytes_eq x body) true h).0)
+stood_by (Some x) (g ∷ gs) body h = absurd (false≢true (and_parts (bytes_eq x body) false h).1)
 
 choose : (b : Bool) (o : Option Live) (x : Live) → (b ≡ true → o ≡ Some x) → cond b o (Some x) ≡ Some x
 choose true o x f = f refl

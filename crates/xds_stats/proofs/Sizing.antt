@@ -5,11 +5,8 @@ use Rattle.std.specs.List.{cons_option}
 use Rattle.std.proofs.lemmas.List.{drop_more, drop_all}
 use Rattle.xds_resource.specs.Writes.{StampedWrite}
 use Rattle.xds_message.specs.Drafts.{with_text}
+use Rattle.xds_message.proofs.DraftLemmas.{texts_step}
 use Rattle.xds_stats.specs.Sizes.{live_texts, others}
-
-texts_step : (bodies : List (List ℕ)) (body : Option (List ℕ)) (rest : List (List ℕ)) → with_text bodies body ++ rest ≡ bodies ++ cons_option body rest
-texts_step bodies None rest = refl
-texts_step bodies (Some b) rest = append_assoc bodies (b ∷ []) rest
 
 one_text : (body : Option (List ℕ)) (rest : List (List ℕ)) → cons_option body [] ++ rest ≡ cons_option body rest
 one_text None rest = refl

@@ -13,8 +13,9 @@ use Rattle.xds_catalogue.specs.Holdings.{nothing_held, catalogue_of}
 use Rattle.xds_catalogue.specs.Joins.{joined}
 use Rattle.xds_catalogue.proofs.Catalogues.{catalogue_of-entries}
 use Rattle.xds_message.specs.Batches.{typed_write, by_type}
-use Rattle.xds_message.proofs.BatchLemmas.{at-per_type, by_type-push}
+use Rattle.xds_message.proofs.BatchLemmas.{by_type-push}
 use Rattle.xds_resource.specs.TypedWrites.{writes_of}
+use Rattle.xds_resource.proofs.TypesApart.{at-per_type}
 use Rattle.xds_store.specs.Reading.{Batch, with_row, ReadsOn, IsReadTo, IsWhole}
 use Rattle.xds_store.specs.Rows.{IsRowOf, IsRow, AreRows, typed_in, stored}
 use Rattle.xds_store.proofs.RowLemmas.{read_again, row_of_it}

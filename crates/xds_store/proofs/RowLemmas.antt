@@ -13,11 +13,11 @@ use Rattle.sqlite_value.specs.Order.{Row, value_cmp, row_cmp}
 use Rattle.sqlite_trees.specs.Objects.{number_in}
 use Rattle.sqlite_value.proofs.KeyLemmas.{entry_cmp-plain, then_tied, class_tied}
 use Rattle.sqlite_value.proofs.OrderLemmas.{value_cmp-Text, value_cmp-Int}
-use Rattle.xds_resource.specs.declared.types.TypeName.{TypeName}
-use Rattle.xds_resource.specs.declared.types.TypeName.TheVariants.{Cluster, Endpoint, Listener, Route, Secret}
+use Rattle.xds_resource.specs.declared.types.TypeName.TheVariants.{Cluster}
 use Rattle.xds_resource.specs.TypedWrites.{TypedWrite}
-use Rattle.xds_resource.specs.Types.{row, type_of_word}
+use Rattle.xds_resource.specs.Types.{row}
 use Rattle.xds_resource.proofs.WriteTies.{text_cmp-IsAntisymmetric}
+use Rattle.xds_resource.proofs.TypesApart.{word_again}
 use Rattle.xds_store.specs.Rows.{body_value, groups_data, row_with, IsRowOf, body_in, texts_of, texts_in, groups_in, typed_in, IsRow}
 
 text_list : (groups : List (List ℕ)) → texts_of (items_of (map string groups)) ≡ groups
@@ -26,13 +26,6 @@ text_list (g ∷ groups) = ap (λ l. g ∷ l) (text_list groups)
 
 groups_again : (text : List ℕ) (groups : List (List ℕ)) → read text ≡ Some (groups_data groups) → groups_in text ≡ groups
 groups_again text groups e = ap (λ o. texts_in (unwrap_or o null)) e ∙ text_list groups
-
-word_again : (t : TypeName) → type_of_word (row t).word ≡ Some t
-word_again Cluster = refl
-word_again Endpoint = refl
-word_again Listener = refl
-word_again Route = refl
-word_again Secret = refl
 
 body_again : (o : Option (List ℕ)) → body_in (body_value o) ≡ o
 body_again None = refl

@@ -1,18 +1,18 @@
 -- How far the lines of a body were read as writes, and the lines of writes that are left to make.
-use Rattle.std.proofs.Common.{◌≡◌, ◌<◌, ◌≤◌, ◌+◌, ◌-◌, arith, ℕ, zero, suc, List, [], ◌∷◌, ◌++◌, length, get_or, take, drop, Bool, true, false, cond, refl, ap, sym, ◌∙◌, subst, append_assoc, length-append, length-take}
+use Rattle.std.proofs.Common.{◌≡◌, ◌<◌, ◌≤◌, ◌+◌, ◌-◌, arith, ℕ, zero, suc, List, [], ◌∷◌, ◌++◌, length, get_or, drop, true, false, cond, refl, ap, sym, ◌∙◌, subst, append_assoc, length-append}
 use Rattle.std.specs.Prelude.{slice_index, ◌==◌}
 use Rattle.xds_resource.specs.declared.types.TypeName.{TypeName}
-use Rattle.xds_resource.specs.declared.types.TypeName.TheVariants.{Cluster, Endpoint, Listener, Route, Secret}
 use Rattle.xds_resource.specs.declared.refusal.Refusal.{Refusal}
 use Rattle.xds_resource.specs.PerType.{PerType, at, with_at, each}
 use Rattle.xds_resource.specs.TypedWrites.{TypedWrite}
 use Rattle.xds_resource.specs.Writes.{StampedWrite}
+use Rattle.xds_resource.proofs.BoolsAndLists.{shorter_if}
 use Rattle.xds_message.specs.Batches.{by_type}
 use Rattle.xds_message.proofs.BatchLemmas.{by_type-push}
 use Rattle.xds_world.specs.Lines.{feed, pieces, without_last_feed, lines}
 use Rattle.xds_program.specs.Faults.{IsWriteLine, AreWriteLines}
 use Rattle.xds_program.proofs.Reading.{AreWriteLines-push}
-use Rattle.xds_tools.specs.WriteLines.{AreWritesIn, IsBadLine, RefusesWriteLine, lines_in, line_of, lines_of, following, behind, left_of, left_at}
+use Rattle.xds_tools.specs.WriteLines.{AreWritesIn, IsBadLine, RefusesWriteLine, lines_in, line_of, lines_of, behind, left_of}
 
 abbrev Batches : Type 0
 Batches = PerType (List StampedWrite)
@@ -26,10 +26,6 @@ pub record IsReadInto (body left : List ℕ) (line : ℕ) (batch : PerType (List
   pub writes_are : AreWriteLines before writes
   pub batch_is : by_type writes ≡ batch
   pub fewer : length before + length left ≤ length body
-
-shorter_if : (b : Bool) (n : ℕ) (bs : List ℕ) → length (cond b (take n bs) bs) ≤ length bs
-shorter_if true n bs = omega (arith, length-take n bs)
-shorter_if false n bs = omega arith
 
 pub read_none : (body : List ℕ) (b : Batches) → (length body == 0) ≡ false → b ≡ each [] → IsReadInto body (without_last_feed body) 1 b
 read_none body b some empty = record {
@@ -81,10 +77,6 @@ bad_line body left bytes rest line b e r split refused = record {
   refused = refused;
 }
 
-pub bad_last : (body left : List ℕ) (line n : ℕ) (b : Batches) (e : Refusal) → IsReadInto body left line b → pieces feed left ≡ left ∷ [] → n ≡ line → RefusesWriteLine left e
-    → IsBadLine body n e
-bad_last body left line n b e r last same refused = subst (λ k. IsBadLine body k e) (sym same) (bad_line body left left [] line b e r last refused)
-
 -- no byte is no line
 pub read_nothing : (body : List ℕ) (b : Batches) → (length body == 0) ≡ true → b ≡ each [] → AreWritesIn body b
 read_nothing body b none empty = record {
@@ -116,20 +108,3 @@ pub line_made : (b : Batches) (t : TypeName) (i : ℕ) (d : StampedWrite) (text 
 line_made b t i d text more h made =
     ap (λ (l : List ℕ). l ++ left_of b t (i + 1)) made ∙ append_assoc text (line_of t (get_or (at b t) i d)) (left_of b t (i + 1))
     ∙ ap (λ (l : List ℕ). text ++ l) (sym (left_first b t i d h))
-
-dropped_all : (ws : List StampedWrite) (i : ℕ) → length ws ≤ i → drop i ws ≡ []
-dropped_all [] zero h = refl
-dropped_all [] (suc i) h = refl
-dropped_all (w ∷ ws) zero h = absurd (omega (arith, h))
-dropped_all (w ∷ ws) (suc i) h = dropped_all ws i (omega (arith, h))
-
-behind_is : (b : Batches) (t : TypeName) → behind b t ≡ left_at b (following t) 0
-behind_is b Cluster = refl
-behind_is b Endpoint = refl
-behind_is b Listener = refl
-behind_is b Route = refl
-behind_is b Secret = refl
-
--- behind the last of a type come those of the next
-pub type_made : (b : Batches) (t : TypeName) (i : ℕ) → length (at b t) ≤ i → left_at b (following t) 0 ≡ left_of b t i
-type_made b t i h = sym (ap (λ (ws : List StampedWrite). lines_of t ws ++ behind b t) (dropped_all (at b t) i h) ∙ behind_is b t)

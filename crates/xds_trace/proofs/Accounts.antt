@@ -4,7 +4,6 @@ use Rattle.std.proofs.Common.{◌≡◌, ℕ, List, [], ◌∷◌, map, Bool, tr
 use Rattle.std.specs.Prelude.{if◌then◌else◌, is_some, is_none, bytes_eq, unwrap_or, option_map}
 use Rattle.std.specs.Option.{option_map_or}
 use Rattle.std.specs.FinMap as finmap
-use Rattle.std.proofs.lemmas.Bool.{or_parts}
 use Rattle.std.specs.FinSet as set
 use Rattle.xds_resource.specs.declared.types.TypeName.{TypeName}
 use Rattle.xds_resource.specs.Writes.{text_cmp}
@@ -18,7 +17,8 @@ use Rattle.xds_ledger.specs.Ledgers.{Account, untold, nonce_text, settled, answe
 use Rattle.xds_check.specs.declared.asking.Asking.{Asking}
 use Rattle.xds_check.specs.Answers.{nonce_of, rejects}
 use Rattle.xds_check.specs.Lines as told_of
-use Rattle.xds_check.specs.Lines.{Fate, Unanswered, Accepted, Refused, is_unanswered, Sent, answered_by, is_waiting, last_nonce, refused_offer}
+use Rattle.xds_check.specs.Lines.{Fate, Unanswered, Accepted, Refused, Sent, answered_by, is_waiting, last_nonce, refused_offer}
+use Rattle.xds_check.proofs.Talking.{unanswering_all}
 
 -- what an account has unanswered is the last of the responses, and no other waits
 abbrev pub IsOpen : Option ledgers.Sent → ℕ → List Sent → Type 0
@@ -40,10 +40,6 @@ tells_nothing = record { nonce = refl; waiting = refl; refused = refl }
 pub waits_as : (o : Option ledgers.Sent) (nonce : ℕ) (rs : List Sent) → IsOpen o nonce rs → is_waiting rs ≡ is_some o
 waits_as None nonce rs waiting = waiting
 waits_as (Some x) nonce rs waiting = ap is_waiting waiting.1
-
-pub none_of : {X : Type 0} (o : Option X) → is_none o ≡ true → o ≡ None
-none_of None is = refl
-none_of (Some x) is = absurd cc
 
 is_none_not : {X : Type 0} (o : Option X) → not (is_some o) ≡ is_none o
 is_none_not None = refl
@@ -67,17 +63,6 @@ ignored_as begun k rs m told =
 
 -- ---- an answer
 
-left_alone : (m : Asking) (r : Sent) (waiting : Bool) → is_unanswered r.fate ≡ waiting → waiting ≡ false → answered_by m r ≡ r
-left_alone m r true is none = absurd cc
-left_alone m r false is none = ap (λ b. if b && bytes_eq r.nonce (nonce_of m) then record { nonce = r.nonce; offer = r.offer; fate = if rejects m then Refused else Accepted } else r) is
-
--- where nothing waits, a request answers nothing
-pub none_answered : (m : Asking) (rs : List Sent) → is_waiting rs ≡ false → map (answered_by m) rs ≡ rs
-none_answered m [] none = refl
-none_answered m (r ∷ rs) none =
-    let parts = or_parts (is_unanswered r.fate) (is_waiting rs) none in
-    λ i. left_alone m r (is_unanswered r.fate) refl parts.0 i ∷ none_answered m rs parts.1 i
-
 abbrev fated : Sent → Fate → Sent
 fated r fate = record { nonce = r.nonce; offer = r.offer; fate = fate }
 
@@ -87,7 +72,7 @@ waiting_one k x = record { nonce = nonce_text k.nonce; offer = x.offer; fate = U
 -- the one that waits, and those before it, once a request came
 first_answered : (k : Account) (x : ledgers.Sent) (m : Asking) (before : List Sent) (same : Bool) → bytes_eq (nonce_text k.nonce) (nonce_of m) ≡ same → is_waiting before ≡ false
     → map (answered_by m) (waiting_one k x ∷ before) ≡ (if same then fated (waiting_one k x) (if rejects m then Refused else Accepted) else waiting_one k x) ∷ before
-first_answered k x m before same is none = λ i. (if is i then fated (waiting_one k x) (if rejects m then Refused else Accepted) else waiting_one k x) ∷ none_answered m before none i
+first_answered k x m before same is none = λ i. (if is i then fated (waiting_one k x) (if rejects m then Refused else Accepted) else waiting_one k x) ∷ unanswering_all m before none i
 
 -- an account after the answer, if it is one
 abbrev pub settled_as : VariantName → TypeName → Account → Option ledgers.Sent → Bool → Bool → Account
@@ -106,7 +91,7 @@ told_open v t k x before false rejected sent none refused = record { nonce = ref
 
 told_by : (v : VariantName) (t : TypeName) (k : Account) (rs : List Sent) (m : Asking) (o : Option ledgers.Sent) → k.sent ≡ o → IsOpen o k.nonce rs → Tells k rs
     → Tells (settled_as v t k o (bytes_eq (nonce_of m) (nonce_text k.nonce)) (rejects m)) (map (answered_by m) rs)
-told_by v t k rs m None sent waiting told = subst (Tells k) (sym (none_answered m rs waiting)) told
+told_by v t k rs m None sent waiting told = subst (Tells k) (sym (unanswering_all m rs waiting)) told
 told_by v t k rs m (Some x) sent waiting told =
     subst (Tells (settled_as v t k (Some x) (bytes_eq (nonce_of m) (nonce_text k.nonce)) (rejects m)))
     (sym (ap (map (answered_by m)) waiting.1 ∙ first_answered k x m waiting.0 (bytes_eq (nonce_of m) (nonce_text k.nonce)) (bytes_eq_swap (nonce_text k.nonce) (nonce_of m)) waiting.2))

@@ -1,8 +1,9 @@
 -- A session of a type on a stream, beside what the lines of a trace say of that type and stream; and what a request that is
 -- taken or ignored makes of both, whatever its names say.
-use Rattle.std.proofs.Common.{◌≡◌, ℕ, List, [], ◌∷◌, ◌++◌, map, Bool, true, false, ◌&&◌, not, refl, sym, ap, subst, ◌∙◌}
+use Rattle.std.proofs.Common.{◌≡◌, ℕ, List, [], ◌∷◌, ◌++◌, Bool, true, false, ◌&&◌, not, refl, sym, ap, subst, ◌∙◌}
 use Rattle.std.specs.Prelude.{if◌then◌else◌, is_some, is_none, bytes_eq}
 use Rattle.std.specs.FinSet as set
+use Rattle.xds_world.proofs.Replicas.{none_there}
 use Rattle.xds_resource.specs.declared.types.TypeName.{TypeName}
 use Rattle.xds_interest.specs.Asked.{Asked, sotw_kept, delta_kept}
 use Rattle.xds_interest.proofs.Choices.{and_first, and_second}
@@ -15,8 +16,9 @@ use Rattle.xds_ledger.specs.Sessions.{Session, Names, unopened}
 use Rattle.xds_check.specs.declared.asking.Asking.{Asking}
 use Rattle.xds_check.specs.Answers.{nonce_of, rejects}
 use Rattle.xds_check.specs.Lines as told_of
-use Rattle.xds_check.specs.Lines.{Sent, answered_by, is_waiting, lists, mentions}
-use Rattle.xds_trace.proofs.Accounts.{none_of, Tells, tells_nothing, waits_as, ignored_as, none_answered, told_settled, told_touched}
+use Rattle.xds_check.specs.Lines.{Sent, is_waiting, lists, mentions}
+use Rattle.xds_check.proofs.Talking.{unanswering_all, answered_list}
+use Rattle.xds_trace.proofs.Accounts.{Tells, tells_nothing, waits_as, ignored_as, told_settled, told_touched}
 use Rattle.xds_trace.proofs.Pending.{Waits}
 
 -- what is kept of the requests that were taken is that of the whole list, and all are of the variant
@@ -60,11 +62,7 @@ account_taken v t x m names = resume (touch (settled v t x.account (nonce_of m) 
 abbrev pub session_asked : VariantName → TypeName → Session → Asking → Names → Session
 session_asked v t x m names = sessions.take v t x (record { nonce = nonce_of m; rejects = rejects m }) names
 
--- the responses after a request
-abbrev pub sent_asked : Bool → Asking → List Sent → List Sent
-sent_asked has m rs = if has then map (answered_by m) rs else rs
-
-told_first : (v : VariantName) (t : TypeName) (k : Account) (rs : List Sent) (m : Asking) (has : Bool) → (has ≡ false → k ≡ untold) → Tells k rs → Tells (settled v t k (nonce_of m) (rejects m)) (sent_asked has m rs)
+told_first : (v : VariantName) (t : TypeName) (k : Account) (rs : List Sent) (m : Asking) (has : Bool) → (has ≡ false → k ≡ untold) → Tells k rs → Tells (settled v t k (nonce_of m) (rejects m)) (answered_list has m rs)
 told_first v t k rs m true fresh told = told_settled v t k rs m told
 told_first v t k rs m false fresh told = subst (λ a. Tells (settled v t a (nonce_of m) (rejects m)) rs) (sym (fresh refl)) (subst (λ a. Tells a rs) (fresh refl) told)
 
@@ -77,42 +75,42 @@ module _ (v : VariantName) (cluster : List ℕ) (t : TypeName) (x : Session) (ha
     pub waits : (name : List ℕ) → Q name ≡ true → Waits (is_delta v) (account_taken v t x m names) name
 
   taken_agrees : (Q : List ℕ → Bool) → NamesAgree Q
-      → Agrees v cluster t (sessions.taken v t x (record { nonce = nonce_of m; rejects = rejects m }) names) true (sent_asked has m rs) (qs ++ m ∷ []) Q
+      → Agrees v cluster t (sessions.taken v t x (record { nonce = nonce_of m; rejects = rejects m }) names) true (answered_list has m rs) (qs ++ m ∷ []) Q
   taken_agrees Q after = record {
     begun = after.begun;
     fresh = λ none. absurd cc;
     asked = after.asked;
     told =
-        told_touched (settled v t x.account (nonce_of m) (rejects m)) (sent_asked has m rs) names.asked.interest names.touched names.mentioned names.versions
+        told_touched (settled v t x.account (nonce_of m) (rejects m)) (answered_list has m rs) names.asked.interest names.touched names.mentioned names.versions
         (told_first v t x.account rs m has (λ none. (agrees.fresh none).0) agrees.told);
     explicit = after.explicit;
     waits = after.waits;
   }
 
-  ignored_same : (b : Bool) → b ≡ true → is_waiting rs ≡ false → sent_asked b m rs ≡ rs
-  ignored_same true is none = none_answered m rs none
+  ignored_same : (b : Bool) → b ≡ true → is_waiting rs ≡ false → answered_list b m rs ≡ rs
+  ignored_same true is none = unanswering_all m rs none
   ignored_same false is none = refl
 
   -- rule: stale-nonce
-  ignored_agrees : (has && is_stale x.account (nonce_of m)) ≡ true → Agrees v cluster t x true (sent_asked has m rs) qs P
+  ignored_agrees : (has && is_stale x.account (nonce_of m)) ≡ true → Agrees v cluster t x true (answered_list has m rs) qs P
   ignored_agrees stale =
       let there : has ≡ true = and_first has (is_stale x.account (nonce_of m)) stale in
-      let none : is_some x.account.sent ≡ false = ap is_some (none_of x.account.sent (and_first (is_none x.account.sent) (not (bytes_eq (nonce_of m) [])) (and_first (is_none x.account.sent && not (bytes_eq (nonce_of m) [])) (not (bytes_eq (nonce_of m) (nonce_text x.account.nonce))) (and_second has (is_stale x.account (nonce_of m)) stale)))) in
-      let same : sent_asked has m rs ≡ rs = ignored_same has there (waits_as x.account.sent x.account.nonce rs agrees.told.waiting ∙ none) in
+      let none : is_some x.account.sent ≡ false = ap is_some (none_there x.account.sent (and_first (is_none x.account.sent) (not (bytes_eq (nonce_of m) [])) (and_first (is_none x.account.sent && not (bytes_eq (nonce_of m) [])) (not (bytes_eq (nonce_of m) (nonce_text x.account.nonce))) (and_second has (is_stale x.account (nonce_of m)) stale)))) in
+      let same : answered_list has m rs ≡ rs = ignored_same has there (waits_as x.account.sent x.account.nonce rs agrees.told.waiting ∙ none) in
       subst (λ r. Agrees v cluster t x true r qs P) (sym same) (subst (λ h. Agrees v cluster t x h rs qs P) there agrees)
 
   by_age : (Q : List ℕ → Bool) → NamesAgree Q → (old : Bool) → (has && is_stale x.account (nonce_of m)) ≡ old
-      → Agrees v cluster t (if not old then sessions.taken v t x (record { nonce = nonce_of m; rejects = rejects m }) names else x) true (sent_asked has m rs) (if old then qs else qs ++ m ∷ []) (λ name. if old then P name else Q name)
+      → Agrees v cluster t (if not old then sessions.taken v t x (record { nonce = nonce_of m; rejects = rejects m }) names else x) true (answered_list has m rs) (if old then qs else qs ++ m ∷ []) (λ name. if old then P name else Q name)
   by_age Q after true is = ignored_agrees is
   by_age Q after false is = taken_agrees Q after
 
   -- a request changes the session as it changes what the lines say
   pub asked_agrees : (Q : List ℕ → Bool) → NamesAgree Q
-      → Agrees v cluster t (session_asked v t x m names) true (sent_asked has m rs) (if told_of.is_stale has rs m then qs else qs ++ m ∷ []) (λ name. if told_of.is_stale has rs m then P name else Q name)
+      → Agrees v cluster t (session_asked v t x m names) true (answered_list has m rs) (if told_of.is_stale has rs m then qs else qs ++ m ∷ []) (λ name. if told_of.is_stale has rs m then P name else Q name)
   asked_agrees Q after =
       let old : (has && is_stale x.account (nonce_of m)) ≡ (x.asked.begun && is_stale x.account (nonce_of m)) = ap (λ b. b && is_stale x.account (nonce_of m)) (sym agrees.begun) in
       let said : (has && is_stale x.account (nonce_of m)) ≡ told_of.is_stale has rs m = sym (ignored_as has x.account rs m agrees.told) in
-      subst (λ s. Agrees v cluster t (session_asked v t x m names) true (sent_asked has m rs) (if s then qs else qs ++ m ∷ []) (λ name. if s then P name else Q name)) said
-      (subst (λ s. Agrees v cluster t (if not s then sessions.taken v t x (record { nonce = nonce_of m; rejects = rejects m }) names else x) true (sent_asked has m rs)
+      subst (λ s. Agrees v cluster t (session_asked v t x m names) true (answered_list has m rs) (if s then qs else qs ++ m ∷ []) (λ name. if s then P name else Q name)) said
+      (subst (λ s. Agrees v cluster t (if not s then sessions.taken v t x (record { nonce = nonce_of m; rejects = rejects m }) names else x) true (answered_list has m rs)
       (if has && is_stale x.account (nonce_of m) then qs else qs ++ m ∷ []) (λ name. if has && is_stale x.account (nonce_of m) then P name else Q name)) old
       (by_age Q after (has && is_stale x.account (nonce_of m)) refl))

@@ -1,6 +1,7 @@
 -- That a response says what its offer says: what it states are live writes of the catalogue that the interest covers, with their
 -- bodies and labels; what it removes is what the offer removes; and it tells of each name of which the offer does.
 use Rattle.std.proofs.Common.{◌≡◌, ℕ, List, [], ◌∷◌, map, Bool, true, false, ◌&&◌, ◌||◌, Option, Some, None, refl, sym, ap, subst, ◌∙◌}
+use Rattle.std.proofs.Math.Bool.{or-true}
 use Rattle.std.specs.Prelude.{if◌then◌else◌, is_some, bytes_eq, IfSome, ⊤}
 use Rattle.std.specs.Option.{option_map_or}
 use Rattle.std.specs.List.{filter, filter_map, cons_option}
@@ -21,7 +22,6 @@ use Rattle.xds_check.specs.Answers.{Statement}
 use Rattle.xds_check.specs.Rules.{is_label_of}
 use Rattle.xds_ledger.proofs.SomethingOwed.{is_some_of}
 use Rattle.xds_trace.specs.Making.{Naming, IsCalled, statement_of}
-use Rattle.xds_ledger.proofs.Stored.{or_true}
 use Rattle.xds_trace.proofs.Offering.{shown_by, present_by, present_is_stated, sotw_is_present}
 
 -- a resource of a response is that of a live write which the interest covers, and the offer states its version
@@ -126,7 +126,7 @@ module _ (named : Naming) (t : TypeName) (m : Entries) (s : Selection) (b : Beli
   -- ---- that each name is told
 
   later_next : (q : List ℕ) (shown said : Bool) (body : Option (List ℕ)) (rest : List Statement) → has_name (names_of rest) q ≡ true → has_name (names_of (next shown said body rest)) q ≡ true
-  later_next q true true (Some body) rest is = ap (λ b. bytes_eq q (named t body) || b) is ∙ or_true (bytes_eq q (named t body))
+  later_next q true true (Some body) rest is = ap (λ b. bytes_eq q (named t body) || b) is ∙ or-true (bytes_eq q (named t body))
   later_next q true true None rest is = is
   later_next q true false body rest is = is
   later_next q false said body rest is = is

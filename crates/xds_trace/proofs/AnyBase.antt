@@ -6,6 +6,7 @@ use Rattle.std.specs.Option.{ForSome, option_map, option_map_or, option_and_then
 use Rattle.std.specs.FinMap as finmap
 use Rattle.std.proofs.lemmas.Bool.{lt-ltb}
 use Rattle.std.proofs.lemmas.List.Elements.{All-nil, All-cons, All-head, All-tail, All-append, All-filter, All-weaker}
+use Rattle.std.proofs.lemmas.Option.{MatchOption-at_some}
 use Rattle.xds_resource.specs.declared.types.TypeName.{TypeName}
 use Rattle.xds_resource.specs.declared.refusal.Refusal.{Refusal}
 use Rattle.xds_resource.specs.declared.refusal.Refusal.TheVariants.{OutOfMemory, BadTrace, NoStream, NonceSpent, CounterSpent, NotFound}
@@ -17,9 +18,8 @@ use Rattle.xds_resource.specs.Types.{is_same_type}
 use Rattle.xds_resource.specs.Writes.{StampedWrite, version_of}
 use Rattle.xds_resource.proofs.MadeMaps.{EachFound, each_found}
 use Rattle.xds_resource.proofs.Naming.{canonical-valid}
-use Rattle.xds_resource.proofs.Refusing.{memory_or_not}
-use Rattle.xds_resource.proofs.TypesApart.{same_type, at-with_at, at-with_at_other}
-use Rattle.xds_message.proofs.BatchLemmas.{at-per_type}
+use Rattle.xds_resource.proofs.Refusing.{memory_or_not, unless_once}
+use Rattle.xds_resource.proofs.TypesApart.{same_type, at-with_at, at-with_at_other, at-per_type}
 use Rattle.xds_message.proofs.StampedWriteLemmas.{from_value-canonical}
 use Rattle.xds_catalogue.specs.Content.{is_live, is_shown}
 use Rattle.xds_catalogue.specs.Holdings.{Entries, Holdings, IsCatalogue, IsNumbered}
@@ -42,7 +42,7 @@ use Rattle.xds_core.specs.Events.{Event, Open, Request, Poll, Owes, Close, Put, 
 use Rattle.xds_core.specs.Laws.{is_write}
 use Rattle.xds_core.specs.Legal.{Record, IsLegal, after, answer_of, left_by}
 use Rattle.xds_core.specs.Steps.{Core, Step, step, with_stream}
-use Rattle.xds_core.proofs.StepLaws.{only_writes_change_the_store, beginnings_are_legal, put_is, delete_is, unless_once}
+use Rattle.xds_core.proofs.StepLaws.{only_writes_change_the_store, beginnings_are_legal, put_is, delete_is}
 use Rattle.xds_trace.specs.Making.{IsSound}
 use Rattle.xds_trace.specs.Telling.{IsResource, HoldsResources, IsToldDeletion, IsToldSent, IsToldResponse, IsToldAnswer, IsToldBy, IsTold, IsSoundRecord, BeginsUntold}
 use Rattle.xds_trace.proofs.Writes.{best_one}
@@ -54,10 +54,10 @@ is_ok : (o : Result NamedBody Refusal) (r : NamedBody) → o ≡ Ok r → IsOk o
 is_ok (Ok x) r is = refl
 is_ok (Err e) r is = absurd cc
 
-canonical_resource : (t : TypeName) (r : NamedBody) → IsCanonical t r → IsResource t r.body
+pub canonical_resource : (t : TypeName) (r : NamedBody) → IsCanonical t r → IsResource t r.body
 canonical_resource t r canonical = is_ok (from_value t (value_of r.body)) r (from_value-canonical t r canonical)
 
-body_tellable : (t : TypeName) (name : List ℕ) (o : Option (List ℕ)) → ForSome o (λ b. IsCanonical t (record { name = name; body = b })) → IfSome o (IsResource t)
+pub body_tellable : (t : TypeName) (name : List ℕ) (o : Option (List ℕ)) → ForSome o (λ b. IsCanonical t (record { name = name; body = b })) → IfSome o (IsResource t)
 body_tellable t name None canonical = tt
 body_tellable t name (Some b) canonical = canonical_resource t (record { name = name; body = b }) (canonical b refl)
 
@@ -66,13 +66,10 @@ writable_tellable t w writable = (writable.named, body_tellable t w.name w.body 
 
 -- ---- the entries of a catalogue
 
-found_there : {X : Type 0} (P : X → Type 0) (o : Option X) (x : X) → o ≡ Some x → IfSome o P → P x
-found_there P o x is h = subst (λ p. IfSome p P) is h
-
 entries_tellable : (t : TypeName) (m : Entries) (es : List (List ℕ × StampedWrite)) → AreTellable t m → EachFound m es → All (IsTellable t) (map (λ (e : List ℕ × StampedWrite). e.1) es)
 entries_tellable t m [] all found = All-nil (IsTellable t)
 entries_tellable t m (e ∷ es) all found =
-    All-cons (IsTellable t) e.1 (map (λ (x : List ℕ × StampedWrite). x.1) es) (found_there (IsTellable t) (finmap.get m e.0) e.1 found.0 (all e.0)) (entries_tellable t m es all found.1)
+    All-cons (IsTellable t) e.1 (map (λ (x : List ℕ × StampedWrite). x.1) es) (MatchOption-at_some ⊤ (IsTellable t) e.1 found.0 (all e.0)) (entries_tellable t m es all found.1)
 
 values_tellable : (t : TypeName) (m : Entries) → AreTellable t m → All (IsTellable t) (finmap.values m)
 values_tellable t m all = entries_tellable t m (finmap.entries m) all (each_found m)

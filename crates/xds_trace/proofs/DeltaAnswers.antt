@@ -1,5 +1,6 @@
 -- That a delta response says what its offer says.
 use Rattle.std.proofs.Common.{◌≡◌, ℕ, List, [], ◌∷◌, map, Bool, true, false, ◌&&◌, ◌||◌, Some, refl, sym, ap, subst, ◌∙◌}
+use Rattle.std.proofs.Math.Bool.{or-true}
 use Rattle.std.specs.Prelude.{is_some, bytes_eq, option_map}
 use Rattle.std.specs.Option.{option_and_then}
 use Rattle.std.specs.List.{filter, filter_map, cons_option}
@@ -19,7 +20,6 @@ use Rattle.xds_sessions.specs.DeltaPolls.{is_statement, is_removal, resource_of,
 use Rattle.xds_check.specs.Answers.{Statement}
 use Rattle.xds_ledger.proofs.SomethingOwed.{is_some_of}
 use Rattle.xds_trace.specs.Making.{Naming, labelled_of}
-use Rattle.xds_ledger.proofs.Stored.{or_true}
 use Rattle.xds_trace.proofs.Offering.{shown_by, stated_is_present}
 use Rattle.xds_trace.proofs.Answering.{IsRight, AllRight, IsKept, name_kept, body_kept, names_of}
 
@@ -120,7 +120,7 @@ module _ (named : Naming) (t : TypeName) (m : Entries) (s : Selection) (b : Beli
       ap (λ l. has_name (names_of l) name || has_name (names_in removes es) name) (with_first q x (names_in states es))
       ∙ ap (λ b. (b || has_name (names_of (stated_from es)) name) || has_name (names_in removes es) name) (ap (bytes_eq name) (called_is q x) ∙ ap (λ n. bytes_eq n q) same ∙ bytes_eq_same q)
   told_first q name Removed es found same =
-      ap (λ b. has_name (names_of (stated_from es)) name || (b || has_name (names_in removes es) name)) (ap (λ n. bytes_eq n q) same ∙ bytes_eq_same q) ∙ or_true (has_name (names_of (stated_from es)) name)
+      ap (λ b. has_name (names_of (stated_from es)) name || (b || has_name (names_in removes es) name)) (ap (λ n. bytes_eq n q) same ∙ bytes_eq_same q) ∙ or-true (has_name (names_of (stated_from es)) name)
 
   or_more : (a b c : Bool) → (b || c) ≡ true → ((a || b) || c) ≡ true
   or_more true b c is = refl
@@ -128,7 +128,7 @@ module _ (named : Naming) (t : TypeName) (m : Entries) (s : Selection) (b : Beli
 
   or_between : (a b c : Bool) → (a || c) ≡ true → (a || (b || c)) ≡ true
   or_between true b c is = refl
-  or_between false b c is = ap (λ x. b || x) is ∙ or_true b
+  or_between false b c is = ap (λ x. b || x) is ∙ or-true b
 
   told_later : (q name : List ℕ) (d : Due) (es : List (List ℕ × Due)) → finmap.get delta_offer q ≡ Some d → told_by es name ≡ true → told_by ((q, d) ∷ es) name ≡ true
   told_later q name (Stated version) es found rest =

@@ -8,6 +8,7 @@ use Rattle.std.specs.Cmp.{nat_cmp_total}
 use Rattle.std.specs.FinMap as finmap
 use Rattle.std.specs.FinMap.{nat_cmp-IsAntisymmetric}
 use Rattle.std.proofs.lemmas.Grind.{reverse_onto}
+use Rattle.std.proofs.lemmas.Option.{same_Some}
 use Rattle.xds_resource.specs.declared.types.TypeName.{TypeName}
 use Rattle.xds_resource.specs.declared.types.TypeName.TheVariants.{Cluster, Endpoint, Listener, Route, Secret}
 use Rattle.xds_resource.specs.PerType.{at, each}
@@ -72,9 +73,6 @@ keeps_fresh named replica = record {
 
 -- ---- changes of a stream
 
-pub some_same : {X : Type 0} (x y : X) → Some x ≡ Some y → x ≡ y
-some_same x y is = cc
-
 pub not_above : (n k opened : ℕ) → n ≤ opened → opened < k → n ≢ k
 not_above n k opened below above same = omega (arith, below, above, same)
 
@@ -85,7 +83,7 @@ module _ (named : Naming) (c : Core) (ls : List Line) (keeps : Keeps named c ls)
     holds = holds_unwritten named c.store ls l unwritten keeps.holds;
     follows = λ k x there.
         elim (get-inserted nat_cmp_total nat_cmp-IsAntisymmetric c.streams n after k) [
-          | inl same ↦ subst (λ z. Follows k z (l ∷ ls)) (some_same after x (sym same.1 ∙ there)) (subst (λ z. Follows z after (l ∷ ls)) same.0 follows)
+          | inl same ↦ subst (λ z. Follows k z (l ∷ ls)) (same_Some after x (sym same.1 ∙ there)) (subst (λ z. Follows z after (l ∷ ls)) same.0 follows)
           | inr other ↦ follows_after k l ls x (silent k other.0) (keeps.follows k x (sym other.1 ∙ there))
         ];
     counted = λ k x there.
@@ -128,7 +126,7 @@ module _ (named : Naming) (c : Core) (ls : List Line) (keeps : Keeps named c ls)
     follows = λ k x there.
         elim (get-inserted nat_cmp_total nat_cmp-IsAntisymmetric c.streams (c.opened + 1) opening k) [
           | inl same ↦
-              subst (λ z. Follows k z (lines.Open (c.opened + 1) ∷ ls)) (some_same opening x (sym same.1 ∙ there))
+              subst (λ z. Follows k z (lines.Open (c.opened + 1) ∷ ls)) (same_Some opening x (sym same.1 ∙ there))
               (first_stream k (new_after k (lines.Open (c.opened + 1)) ls (silent_open k (c.opened + 1)) (keeps.new k (just_above k same.0))))
           | inr other ↦ follows_after k (lines.Open (c.opened + 1)) ls x (silent_open k (c.opened + 1)) (keeps.follows k x (sym other.1 ∙ there))
         ];

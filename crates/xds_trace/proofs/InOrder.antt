@@ -8,6 +8,7 @@ use Rattle.xds_resource.specs.declared.refusal.Refusal.TheVariants.{CounterSpent
 use Rattle.xds_resource.specs.Resources.{NamedBody}
 use Rattle.xds_resource.specs.Stamps.{max_counter}
 use Rattle.xds_resource.specs.Types.{types}
+use Rattle.xds_resource.proofs.Refusing.{unless_once, ok_same}
 use Rattle.xds_message.specs.declared.draft.Draft.{Draft}
 use Rattle.xds_ledger.specs.declared.outcome.Outcome.{Outcome}
 use Rattle.xds_core.specs.Stores.{Store, Batch, if_done, merging, putting_at, deleting_at}
@@ -15,7 +16,7 @@ use Rattle.xds_core.specs.Streams.{Stream, Message, opening, requested, looked_a
 use Rattle.xds_core.specs.Events.{Event, Open, Request, Poll, Owes, Close, Put, Delete, Merge, Snapshot, Rest, Since, Reply, Opened, Answered, Polled, Owed, Closed, Written, Merged}
 use Rattle.xds_core.specs.Steps.{Core, Step, step, fresh, with_stream}
 use Rattle.xds_core.specs.Legal.{Record, IsLegal, after, answer_of, left_by}
-use Rattle.xds_core.proofs.StepLaws.{done_with, unless_once}
+use Rattle.xds_core.proofs.StepLaws.{done_with}
 use Rattle.xds_check.specs.declared.line.Line.{Line}
 use Rattle.xds_check.specs.declared.line.Line.TheVariants as lines
 use Rattle.xds_check.specs.Streams.{AllFollow}
@@ -25,7 +26,7 @@ use Rattle.xds_trace.specs.Claims.{EveryLegalTraceIsInOrder}
 use Rattle.xds_trace.proofs.StreamPolls.{polled_some, polled_none}
 use Rattle.xds_trace.proofs.Tracing.{behind}
 use Rattle.xds_trace.proofs.Following.{absent}
-use Rattle.xds_trace.proofs.Keeping.{stream_found, ok_same}
+use Rattle.xds_trace.proofs.Keeping.{stream_found}
 use Rattle.xds_trace.proofs.Speaking.{Orders, stream_ordered, stream_back, line_ordered, open_ordered, close_ordered, mute_idle, mute_request, mute_response, request_speaks, response_speaks, AreFree, free_reverse, free_flat, follow_free, writes_ordered}
 
 -- what an event leaves

@@ -6,6 +6,7 @@ use Rattle.std.specs.List.{list_any}
 use Rattle.std.specs.FinMap as finmap
 use Rattle.std.proofs.lemmas.Bool.{or_parts}
 use Rattle.std.proofs.lemmas.List.Folds.{list_any-append}
+use Rattle.std.proofs.Math.Bool.{or-true}
 use Rattle.xds_resource.specs.Writes.{StampedWrite, version_of}
 use Rattle.xds_resource.proofs.NameMaps.{get-tabulated, same_names, bytes_eq_same, bytes_eq_tells}
 use Rattle.xds_interest.specs.Interests.{Selection, covers, has_name}
@@ -18,7 +19,6 @@ use Rattle.xds_ledger.specs.Variants.{is_whole}
 use Rattle.xds_ledger.specs.Owed.{Beliefs, present_as, present, owed_of, is_owed}
 use Rattle.xds_ledger.specs.Offers.{Offer, offer}
 use Rattle.xds_ledger.proofs.ByName.{offer_says_it}
-use Rattle.xds_ledger.proofs.Stored.{or_true}
 use Rattle.xds_check.specs.declared.line.Line.{Line}
 use Rattle.xds_check.specs.declared.line.Line.TheVariants as lines
 use Rattle.xds_check.specs.declared.rule.Rule.TheVariants.{FreshNonce, BestResources, CoveredResources, WholeResponse, RightRemovals, OneAtATime, NothingRefusedAgain, NothingPending}
@@ -48,7 +48,7 @@ Found p xs = (q : List ℕ) × (has_name xs q ≡ true) × (p q ≡ true)
 
 found_at : (p : List ℕ → Bool) (x : List ℕ) (xs : List (List ℕ)) (b : Bool) → p x ≡ b → (b || list_any p xs) ≡ true → (list_any p xs ≡ true → Found p xs) → Found p (x ∷ xs)
 found_at p x xs true is or later = (x, ap (λ b. b || has_name xs x) (bytes_eq_same x), is)
-found_at p x xs false is or later = let rest = later or in (rest.0, ap (λ b. bytes_eq rest.0 x || b) rest.1 ∙ or_true (bytes_eq rest.0 x), rest.2)
+found_at p x xs false is or later = let rest = later or in (rest.0, ap (λ b. bytes_eq rest.0 x || b) rest.1 ∙ or-true (bytes_eq rest.0 x), rest.2)
 
 named_any : (p : List ℕ → Bool) (xs : List (List ℕ)) → list_any p xs ≡ true → Found p xs
 named_any p [] is = absurd cc

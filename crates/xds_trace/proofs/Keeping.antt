@@ -1,16 +1,16 @@
 -- What every event keeps of what the lines of a trace say of a replica; and its lines break no rule.
-use Rattle.std.proofs.Common.{◌≡◌, ℕ, ◌+◌, List, [], ◌∷◌, ◌++◌, reverse, Bool, true, false, ◌||◌, Option, Some, None, Result, Ok, Err, refl, sym, ap, subst, ◌∙◌}
+use Rattle.std.proofs.Common.{◌≡◌, ℕ, ◌+◌, List, [], ◌∷◌, ◌++◌, reverse, Bool, true, false, ◌||◌, Option, Some, None, Ok, Err, refl, sym, ap, subst, ◌∙◌}
 use Rattle.std.specs.Prelude.{◌==◌, All}
 use Rattle.std.specs.Option.{option_map_or}
 use Rattle.std.specs.FinMap as finmap
 use Rattle.xds_resource.specs.declared.types.TypeName.{TypeName}
-use Rattle.xds_resource.specs.declared.refusal.Refusal.{Refusal}
 use Rattle.xds_resource.specs.declared.refusal.Refusal.TheVariants.{NoStream, CounterSpent}
 use Rattle.xds_resource.specs.PerType.{at, with_at}
 use Rattle.xds_resource.specs.Resources.{NamedBody, written, deleted}
 use Rattle.xds_resource.specs.Stamps.{max_counter}
 use Rattle.xds_resource.specs.Types.{types}
 use Rattle.xds_resource.specs.Writes.{StampedWrite}
+use Rattle.xds_resource.proofs.Refusing.{unless_once, ok_same}
 use Rattle.xds_catalogue.specs.Joins.{joined}
 use Rattle.xds_catalogue.specs.Local.{next_counter}
 use Rattle.xds_message.specs.declared.draft.Draft.{Draft}
@@ -19,7 +19,7 @@ use Rattle.xds_core.specs.Stores.{Store, Batch, if_done, merging, merged, grown,
 use Rattle.xds_core.specs.Streams.{Stream, Message, opening, requested, looked_at, polled_first, owes_some, owes_of}
 use Rattle.xds_core.specs.Events.{Event, Open, Request, Poll, Owes, Close, Put, Delete, Merge, Snapshot, Rest, Since, Reply, Opened, Answered, Polled, Owed, Closed, Written, Merged}
 use Rattle.xds_core.specs.Steps.{Core, Step, step, with_stream}
-use Rattle.xds_core.proofs.StepLaws.{done_with, unless_once, put_is, delete_is}
+use Rattle.xds_core.proofs.StepLaws.{done_with, put_is, delete_is}
 use Rattle.xds_check.specs.declared.line.Line.{Line}
 use Rattle.xds_check.specs.declared.line.Line.TheVariants as lines
 use Rattle.xds_check.specs.Rules.{KeepsRules, AllKeep}
@@ -37,9 +37,6 @@ use Rattle.xds_trace.proofs.Following.{Keeps, Made, stream_kept, stream_same, li
 pub stream_found : (f : Stream → Step) (o : Option Stream) (q : Reply × Core) → option_map_or f o (Err NoStream) ≡ Ok q → (s : Stream) × (o ≡ Some s) × (f s ≡ Ok q)
 stream_found f None q is = absurd cc
 stream_found f (Some s) q is = (s, refl, is)
-
-pub ok_same : {X : Type 0} (x y : X) → ◌≡◌ {A = Result X Refusal} (Ok x) (Ok y) → y ≡ x
-ok_same x y is = cc
 
 module _ (named : Naming) (c : Core) (ls : List Line) (keeps : Keeps named c ls) where
   abbrev Left : Event → Reply × Core → Type 0

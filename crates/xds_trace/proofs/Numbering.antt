@@ -15,6 +15,7 @@ use Rattle.xds_resource.specs.Resources.{NamedBody, written, deleted}
 use Rattle.xds_resource.specs.Stamps.{max_counter}
 use Rattle.xds_resource.specs.Types.{types}
 use Rattle.xds_resource.specs.Writes.{StampedWrite}
+use Rattle.xds_resource.proofs.Refusing.{unless_once, ok_same}
 use Rattle.xds_catalogue.proofs.Joining.{below_top}
 use Rattle.xds_catalogue.proofs.Lookups.{get-inserted, get-removed}
 use Rattle.xds_message.specs.declared.draft.Draft.{Draft}
@@ -24,7 +25,7 @@ use Rattle.xds_core.specs.Streams.{Stream, Message, opening, requested, looked_a
 use Rattle.xds_core.specs.Events.{Event, Open, Request, Poll, Owes, Close, Put, Delete, Merge, Snapshot, Rest, Since, Reply, Opened, Answered, Polled, Owed, Closed, Written, Merged}
 use Rattle.xds_core.specs.Steps.{Core, Step, step, fresh, with_stream}
 use Rattle.xds_core.specs.Legal.{Record, IsLegal, after, answer_of, left_by}
-use Rattle.xds_core.proofs.StepLaws.{done_with, unless_once}
+use Rattle.xds_core.proofs.StepLaws.{done_with}
 use Rattle.xds_check.specs.declared.line.Line.{Line}
 use Rattle.xds_check.specs.declared.line.Line.TheVariants as lines
 use Rattle.xds_check.specs.Texts.{HasStream}
@@ -34,7 +35,7 @@ use Rattle.xds_trace.specs.Making.{Naming, asking_of, write_line, sent_lines, id
 use Rattle.xds_trace.specs.Claims.{EveryStreamHasANumber}
 use Rattle.xds_trace.proofs.Judging.{unless_true}
 use Rattle.xds_trace.proofs.Following.{absent}
-use Rattle.xds_trace.proofs.Keeping.{stream_found, ok_same}
+use Rattle.xds_trace.proofs.Keeping.{stream_found}
 
 -- the open streams have numbers up to the count of those that were opened
 pub record IsNumbered (c : Core) : Type 0 where

@@ -3,6 +3,7 @@ use Rattle.std.proofs.Common.{◌≡◌, ℕ, List, Bool, true, false, ◌&&◌,
 use Rattle.std.specs.Prelude.{if◌then◌else◌, is_some, bytes_eq, option_map}
 use Rattle.std.specs.Option.{option_map_or, option_and_then}
 use Rattle.std.specs.FinMap as finmap
+use Rattle.xds_world.proofs.SettlingFaults.{whole_at}
 use Rattle.xds_resource.specs.declared.types.TypeName.{TypeName}
 use Rattle.xds_resource.specs.Types.{row}
 use Rattle.xds_resource.specs.Writes.{StampedWrite, version_of}
@@ -61,10 +62,6 @@ whole_gone : (p : Option (List ℕ)) → option_map Stated p ≡ Some Removed �
 whole_gone None is = refl
 whole_gone (Some u) is = absurd cc
 
-whole_stated : (p : Option (List ℕ)) (version : List ℕ) → option_map Stated p ≡ Some (Stated version) → p ≡ Some version
-whole_stated None version is = absurd cc
-whole_stated (Some u) version is = let same : Stated u ≡ Stated version = cc in cc
-
 abbrev offered_as : Bool → VariantName → TypeName → Option Entry → Option (List ℕ) → Option Due
 offered_as whole v t e p = if whole then option_map Stated p else if option_map_or (is_told v t) (owed e p) false then owed e p else None
 
@@ -78,7 +75,7 @@ offered_gone v t e p true is = whole_gone p is
 offered_gone v t e p false is = owed_gone e p (chosen (option_map_or (is_told v t) (owed e p) false) (owed e p) Removed is).1
 
 pub offered_stated : (v : VariantName) (t : TypeName) (e : Option Entry) (p : Option (List ℕ)) (whole : Bool) (version : List ℕ) → offered_as whole v t e p ≡ Some (Stated version) → p ≡ Some version
-offered_stated v t e p true version is = whole_stated p version is
+offered_stated v t e p true version is = whole_at p version is
 offered_stated v t e p false version is = owed_stated e p version (chosen (option_map_or (is_told v t) (owed e p) false) (owed e p) (Stated version) is).1
 
 -- ---- the same of an offer

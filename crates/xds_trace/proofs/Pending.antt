@@ -1,6 +1,7 @@
 -- What holds of a name that waits for an answer: it is explicit in the interest, the client wasn't told it, and where the
 -- response that is unanswered speaks of it, it was touched since. What a request makes of that.
 use Rattle.std.proofs.Common.{◌≡◌, ℕ, List, ◌++◌, Bool, true, false, ◌&&◌, ◌||◌, not, Option, Some, None, refl, sym, ap, subst, ◌∙◌}
+use Rattle.std.proofs.Math.Bool.{or-true}
 use Rattle.std.specs.Prelude.{if◌then◌else◌, is_some, bytes_eq, option_map, ⊤}
 use Rattle.std.specs.Option.{option_or}
 use Rattle.std.specs.FinMap as finmap
@@ -20,7 +21,7 @@ use Rattle.xds_ledger.specs.Variants.{is_delta, is_whole}
 use Rattle.xds_ledger.specs.Owed.{Beliefs}
 use Rattle.xds_ledger.specs.Believing.{Sent, touched_since, was_touched, believed_accepted, believed_touched, beliefs_resumed}
 use Rattle.xds_ledger.proofs.BeliefsByName.{accepted_by_name, taken_by_name}
-use Rattle.xds_ledger.proofs.Stored.{or_true}
+use Rattle.xds_ledger.proofs.Made.{resumed_absent}
 use Rattle.xds_ledger.specs.Ledgers.{Account, nonce_text, settled, answered, touch, resume}
 use Rattle.xds_trace.proofs.Accounts.{settled_as}
 
@@ -81,9 +82,6 @@ waits_settled v t k nonce rejected name waits = settled_waits v t k k.sent (byte
 
 -- ---- the names of a request
 
-resumed_absent : (o : Option (List ℕ)) (e : Option Entry) → o ≡ None → e ≡ None → option_or (option_map Told o) e ≡ None
-resumed_absent o e unsaid unheld = λ i. option_or (option_map Told (unsaid i)) (unheld i)
-
 -- beliefs once a client said what it holds, name by name
 pub resumed_by_name : (versions : finmap.FinMap text_cmp (List ℕ)) (b : Beliefs) (name : List ℕ) → finmap.get (beliefs_resumed versions b) name ≡ option_or (option_map Told (finmap.get versions name)) (finmap.get b name)
 resumed_by_name versions b name =
@@ -91,7 +89,7 @@ resumed_by_name versions b name =
     (λ e. let parts = in_neither (finmap.keys versions) (finmap.keys b) name e in resumed_absent (finmap.get versions name) (finmap.get b name) (absent_key versions name parts.0) (absent_key b name parts.1))
 
 untold_touched : (delta mentioned : Bool) (e : Option Entry) → IsUntold delta e → IsUntold delta (believed_touched true mentioned e)
-untold_touched true mentioned e untold = ap (λ o. if mentioned || is_some o then Some Unsure else None) untold ∙ ap (λ b. if b then Some Unsure else None) (or_true mentioned)
+untold_touched true mentioned e untold = ap (λ o. if mentioned || is_some o then Some Unsure else None) untold ∙ ap (λ b. if b then Some Unsure else None) (or-true mentioned)
 untold_touched false true e untold = unsure false
 untold_touched false false None untold = not_known
 untold_touched false false (Some x) untold = unsure false
@@ -110,7 +108,7 @@ noted_on (Some x) touched name noted = λ said. list_any-push (λ touch. touches
 
 noted_anew : (o : Option Sent) (touched : Touch) (name : List ℕ) → touches touched name ≡ true → IsNoted (option_map (λ sent. touched_since sent touched) o) name
 noted_anew None touched name is = tt
-noted_anew (Some x) touched name is = λ said. list_any-push (λ touch. touches touch name) x.touched touched ∙ ap (λ b. was_touched x name || b) is ∙ or_true (was_touched x name)
+noted_anew (Some x) touched name is = λ said. list_any-push (λ touch. touches touch name) x.touched touched ∙ ap (λ b. was_touched x name || b) is ∙ or-true (was_touched x name)
 
 -- what is believed of a name of which the request tells no version
 unresumed : (k : Account) (s : Selection) (touched : Touch) (mentioned : set.FinSet text_cmp) (versions : finmap.FinMap text_cmp (List ℕ)) (name : List ℕ) → finmap.get versions name ≡ None

@@ -29,12 +29,12 @@ use Rattle.xds_check.specs.declared.asking.Asking.TheVariants as askings
 use Rattle.xds_check.specs.Answers.{lists_in, mentions_in}
 use Rattle.xds_check.specs.Lines.{Sent, lists, mentions, pending_in_sotw, pending_in_delta}
 use Rattle.std.proofs.lemmas.List.Concat.{flat_map-append}
-use Rattle.xds_ledger.proofs.Stored.{or_true}
+use Rattle.std.proofs.Math.Bool.{or-true}
 use Rattle.xds_trace.proofs.Pending.{Waits, waits_settled, waits_on, waits_anew}
 use Rattle.xds_trace.proofs.Agreeing.{Agrees, NamesAgree, account_taken}
 
 by_explicit : (s : Selection) (name : List ℕ) → set.contains s.names name ≡ true → reaches s name ≡ true
-by_explicit s name is = ap (λ b. s.star || b) is ∙ or_true s.star
+by_explicit s name is = ap (λ b. s.star || b) is ∙ or-true s.star
 
 nothing_there : {X : Type 0} (name : List ℕ) → finmap.get (finmap.empty {X = X} {R = text_cmp}) name ≡ None
 nothing_there name = finmap.get-empty text_cmp name
@@ -56,7 +56,7 @@ sotw_explicit : (t : TypeName) (a : Asked) (names : List (List ℕ)) (name : Lis
 sotw_explicit t a names name is =
     let among : (not (is_star t name) && has_name names name) ≡ true = sym (has_name-names_among t names name) ∙ is in
     let some : is_named names ≡ true = is_named_by names name (and_second (not (is_star t name)) (has_name names name) among) in
-    ap (λ b. set.contains (if b then listed t names else everything t).names name) (ap (λ b. a.named || b) some ∙ or_true a.named) ∙ contains-listed t names name ∙ among
+    ap (λ b. set.contains (if b then listed t names else everything t).names name) (ap (λ b. a.named || b) some ∙ or-true a.named) ∙ contains-listed t names name ∙ among
 
 module _ (cluster : List ℕ) (t : TypeName) (x : Session) (has : Bool) (rs : List Sent) (qs : List Asking) (P : List ℕ → Bool) (m : Request) (old : Selection)
     (agrees : Agrees StateOfTheWorld cluster t x has rs qs P) (same : old.names ≡ x.asked.interest.names) where
@@ -75,7 +75,7 @@ module _ (cluster : List ℕ) (t : TypeName) (x : Session) (has : Bool) (rs : Li
       let apart : exactly_one (set.contains x.asked.interest.names name) (set.contains said.asked.interest.names name) ≡ true =
       (λ i. exactly_one (set.contains (sym same i) name) (explicit i)) ∙ only_new (set.contains old.names name) or in
       let touched : touches said.touched name ≡ true =
-      sotw_touch_is_a_set x.asked.interest said.asked.interest name ∙ ap (λ b. exactly_one x.asked.interest.star said.asked.interest.star || b) apart ∙ or_true (exactly_one x.asked.interest.star said.asked.interest.star) in
+      sotw_touch_is_a_set x.asked.interest said.asked.interest name ∙ ap (λ b. exactly_one x.asked.interest.star said.asked.interest.star || b) apart ∙ or-true (exactly_one x.asked.interest.star said.asked.interest.star) in
       waits_anew false (settled StateOfTheWorld t x.account m.response_nonce (is_some m.error_detail)) said.asked.interest said.touched said.mentioned finmap.empty name (nothing_there name)
       (by_explicit said.asked.interest name explicit) explicit touched
     where
@@ -189,7 +189,7 @@ module _ (cluster : List ℕ) (t : TypeName) (x : Session) (has : Bool) (rs : Li
       let listed_now : has_name (names_among t m.resource_names_subscribe) name ≡ true = and_first (has_name (names_among t m.resource_names_subscribe) name) _ is in
       let free : (x.asked.begun || not (is_some (finmap.get m.initial_resource_versions name))) ≡ true =
       ap (λ b. b || not (is_some (finmap.get m.initial_resource_versions name))) agrees.begun ∙ and_second (has_name (names_among t m.resource_names_subscribe) name) _ is in
-      let touched : touches (delta_touch t (mention m)) name ≡ true = ap (λ b. (delta_touch t (mention m)).all || b) (named_touch name listed_now) ∙ or_true (delta_touch t (mention m)).all in (
+      let touched : touches (delta_touch t (mention m)) name ≡ true = ap (λ b. (delta_touch t (mention m)).all || b) (named_touch name listed_now) ∙ or-true (delta_touch t (mention m)).all in (
         new_explicit name listed_now,
         waits_anew true settled_now told_names.asked.interest told_names.touched told_names.mentioned told_names.versions name (unversioned name x.asked.begun free)
             (by_explicit told_names.asked.interest name (new_explicit name listed_now)) (said_of_it name x.asked.begun listed_now) touched,

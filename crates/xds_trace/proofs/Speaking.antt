@@ -8,6 +8,7 @@ use Rattle.std.specs.Cmp.{nat_cmp_total}
 use Rattle.std.specs.FinMap as finmap
 use Rattle.std.specs.FinMap.{nat_cmp-IsAntisymmetric}
 use Rattle.std.proofs.lemmas.Grind.{reverse_onto}
+use Rattle.std.proofs.lemmas.Option.{same_Some}
 use Rattle.xds_resource.specs.declared.types.TypeName.{TypeName}
 use Rattle.xds_resource.specs.PerType.{PerType, at}
 use Rattle.xds_resource.specs.Writes.{StampedWrite}
@@ -32,7 +33,7 @@ use Rattle.xds_trace.specs.Making.{Naming, asking_of, write_line}
 use Rattle.xds_trace.proofs.StreamLines.{itself, of_another}
 use Rattle.xds_trace.proofs.StreamRequests.{own_request, same_variant}
 use Rattle.xds_trace.proofs.StreamPolls.{IsPolled}
-use Rattle.xds_trace.proofs.Following.{some_same, not_above}
+use Rattle.xds_trace.proofs.Following.{not_above}
 
 -- an open stream by the lines: it is open, and its messages are of its variant
 pub record Speaks (n : ℕ) (s : Stream) (ls : List Line) : Type 0 where
@@ -102,7 +103,7 @@ module _ (c : Core) (ls : List Line) (orders : Orders c ls) where
   stream_ordered n s left l has speaks mute = record {
     speaks = λ k x there.
         elim (get-inserted nat_cmp_total nat_cmp-IsAntisymmetric c.streams n left k) [
-          | inl same ↦ subst (λ z. Speaks k z (l ∷ ls)) (some_same left x (sym same.1 ∙ there)) (subst (λ z. Speaks z left (l ∷ ls)) same.0 speaks)
+          | inl same ↦ subst (λ z. Speaks k z (l ∷ ls)) (same_Some left x (sym same.1 ∙ there)) (subst (λ z. Speaks z left (l ∷ ls)) same.0 speaks)
           | inr other ↦ speaks_on k l ls x (mute k other.0) (orders.speaks k x (sym other.1 ∙ there))
         ];
     counted = λ k x there.
@@ -140,7 +141,7 @@ module _ (c : Core) (ls : List Line) (orders : Orders c ls) where
   open_ordered = record {
     speaks = λ k x there.
         elim (get-inserted nat_cmp_total nat_cmp-IsAntisymmetric c.streams (c.opened + 1) opening k) [
-          | inl same ↦ subst (λ z. Speaks k z (lines.Open (c.opened + 1) ∷ ls)) (some_same opening x (sym same.1 ∙ there)) (subst (λ z. Speaks z opening (lines.Open (c.opened + 1) ∷ ls)) same.0 first)
+          | inl same ↦ subst (λ z. Speaks k z (lines.Open (c.opened + 1) ∷ ls)) (same_Some opening x (sym same.1 ∙ there)) (subst (λ z. Speaks z opening (lines.Open (c.opened + 1) ∷ ls)) same.0 first)
           | inr other ↦ speaks_on k (lines.Open (c.opened + 1)) ls x (mute_open k (c.opened + 1) other.0) (orders.speaks k x (sym other.1 ∙ there))
         ];
     counted = λ k x there.

@@ -3,14 +3,13 @@ use Rattle.std.proofs.Common.{◌≡◌, ◌≢◌, ◌⊎◌, inl, inr, ℕ, �
 use Rattle.std.specs.Prelude.{if◌then◌else◌, is_some, bytes_eq, decimal, unwrap_or}
 use Rattle.std.specs.Option.{option_or, option_map_or, option_and_then}
 use Rattle.std.specs.FinMap as finmap
-use Rattle.std.proofs.lemmas.Bool.{or_parts}
+use Rattle.std.proofs.lemmas.Bool.{or_parts, not-true}
 use Rattle.std.proofs.lemmas.Fmt.{decimal_injective}
 use Rattle.xds_resource.specs.declared.types.TypeName.{TypeName}
 use Rattle.xds_resource.specs.PerType.{PerType, at, with_at}
 use Rattle.xds_resource.specs.Types.{is_same_type}
 use Rattle.xds_resource.specs.Stamps.{max_counter}
 use Rattle.xds_resource.specs.Writes.{StampedWrite, version_of}
-use Rattle.xds_resource.proofs.Naming.{unless_not}
 use Rattle.xds_resource.proofs.TypesApart.{same_type, is_same_type-same, at-with_at, at-with_at_other}
 use Rattle.xds_interest.specs.Interests.{Selection, in_cluster, covers, is_open_to}
 use Rattle.xds_interest.proofs.Choices.{and_first, and_second}
@@ -140,7 +139,7 @@ module _ (n : ℕ) (ls : List Line) (s : Stream) (v : VariantName) (a : Answer) 
         explicit = λ name is. before.explicit name (and_first (is_pending n a.kind ls name) (not (tells a name)) is);
         waits = λ name is. record {
           untold = (before.waits name (and_first (is_pending n a.kind ls name) (not (tells a name)) is)).untold;
-          noted = λ said. unless_true (tells a name) (unless_not (tells a name) (and_second (is_pending n a.kind ls name) (not (tells a name)) is)) (told name said);
+          noted = λ said. unless_true (tells a name) (not-true (tells a name) (and_second (is_pending n a.kind ls name) (not (tells a name)) is)) (told name said);
         };
       }
 

@@ -1,16 +1,18 @@
 -- A response on a stream: it breaks no rule, and what the stream is then agrees with what the lines say, with the line of the
 -- response.
-use Rattle.std.proofs.Common.{◌≡◌, ◌≢◌, inl, inr, ℕ, suc, ◌+◌, ◌<◌, ◌≤◌, List, [], Bool, true, false, ◌&&◌, not, Option, Some, None, Result, Ok, Err, refl, sym, ap, ◌∙◌, arith}
+use Rattle.std.proofs.Common.{◌≡◌, ◌≢◌, inl, inr, ℕ, ◌+◌, ◌<◌, ◌≤◌, List, [], Bool, true, false, ◌&&◌, not, Option, Some, None, Result, Ok, Err, refl, sym, ap, ◌∙◌, arith}
 use Rattle.std.specs.Prelude.{if◌then◌else◌, ◌==◌, is_none, bytes_eq, option_map, decimal, length}
 use Rattle.std.specs.Option.{option_map_or, option_and_then}
 use Rattle.std.proofs.lemmas.Fmt.{decimal_nonempty}
 use Rattle.std.proofs.lemmas.Bool.Decides.{eqb_tells}
+use Rattle.std.proofs.Math.Numerals.{suc-eq-add-one}
+use Rattle.std.proofs.lemmas.Bool.{not-true}
+use Rattle.xds_world.proofs.Replicas.{if_some, none_there}
 use Rattle.xds_resource.specs.declared.types.TypeName.{TypeName}
 use Rattle.xds_resource.specs.declared.refusal.Refusal.{Refusal}
 use Rattle.xds_resource.specs.declared.refusal.Refusal.TheVariants.{NonceSpent}
 use Rattle.xds_resource.specs.PerType.{at}
 use Rattle.xds_resource.specs.Stamps.{max_counter}
-use Rattle.xds_resource.proofs.Naming.{unless_not}
 use Rattle.xds_resource.proofs.NameMaps.{bytes_eq_tells}
 use Rattle.xds_catalogue.specs.Holdings.{Entries}
 use Rattle.xds_message.specs.declared.draft.Draft.{Draft}
@@ -23,16 +25,12 @@ use Rattle.xds_ledger.specs.Sessions.{Session}
 use Rattle.xds_core.specs.Stores.{Store}
 use Rattle.xds_core.specs.Streams as streams
 use Rattle.xds_core.specs.Streams.{Stream, to_send, response_of, responding, polled, first_due, polled_first}
-use Rattle.xds_trace.proofs.Accounts.{none_of}
 
 -- ---- nonces
 
-one_more : (n : ℕ) → n + 1 ≡ suc n
-one_more n = omega arith
-
 -- rule: nonce-numbers
 pub number_text : (n : ℕ) → nonce_text (n + 1) ≡ decimal (n + 1)
-number_text n = ap nonce_text (one_more n) ∙ ap decimal (sym (one_more n))
+number_text n = ap nonce_text (sym (suc-eq-add-one n)) ∙ ap decimal (suc-eq-add-one n)
 
 pub apart_by : (x y : List ℕ) (b : Bool) → bytes_eq x y ≡ b → (x ≡ y → ⊥) → b ≡ false
 apart_by x y true is other = absurd (other (bytes_eq_tells x y is))
@@ -51,17 +49,13 @@ pub record IsDue (v : VariantName) (t : TypeName) (x : Session) (m : Entries) (o
   pub fresh : is_refused x.account o ≡ false
   pub offer_is : o ≡ offer v t x.asked.interest m x.account.beliefs
 
-if_given : {X : Type 0} (b : Bool) (x y : X) → (if b then Some x else None) ≡ Some y → (b ≡ true) × (y ≡ x)
-if_given true x y is = (refl, cc)
-if_given false x y is = absurd cc
-
 due_by : (v : VariantName) (t : TypeName) (x : Session) (m : Entries) (o : Offer) (begun : Bool) → x.asked.begun ≡ begun → (if begun then ledgers.sending v t x.asked.interest m x.account else None) ≡ Some o → IsDue v t x m o
 due_by v t x m o false is sends = absurd cc
 due_by v t x m o true is sends =
     let this : Offer = offer v t x.asked.interest m x.account.beliefs in
-    let given = if_given (is_none x.account.sent && is_due v t x.asked.interest m x.account && not (is_refused x.account this)) this o sends in
+    let given = if_some (is_none x.account.sent && is_due v t x.asked.interest m x.account && not (is_refused x.account this)) this o sends in
     let rest = and_split (is_none x.account.sent) (is_due v t x.asked.interest m x.account) (not (is_refused x.account this)) given.0 in
-    record { begun = is; free = none_of x.account.sent rest.0; fresh = ap (is_refused x.account) given.1 ∙ unless_not (is_refused x.account this) rest.1; offer_is = given.1 }
+    record { begun = is; free = none_there x.account.sent rest.0; fresh = ap (is_refused x.account) given.1 ∙ not-true (is_refused x.account this) rest.1; offer_is = given.1 }
   where
     and_split : (a b c : Bool) → (a && b && c) ≡ true → (a ≡ true) × (c ≡ true)
     and_split true true c all = (refl, all)

@@ -8,12 +8,13 @@ use Rattle.xds_resource.specs.declared.refusal.Refusal.TheVariants.{BadMessage, 
 use Rattle.xds_resource.specs.PerType.{PerType, at, with_at, each}
 use Rattle.xds_resource.specs.Types.{is_same_type, type_of_url}
 use Rattle.xds_resource.proofs.TypesApart.{same_type, at-with_at, at-with_at_other, at-each}
+use Rattle.xds_resource.proofs.Refusing.{unless_once}
 use Rattle.xds_interest.specs.Interests.{Selection}
 use Rattle.xds_ledger.specs.declared.variant.VariantName.{VariantName}
 use Rattle.xds_ledger.specs.declared.variant.VariantName.TheVariants as variants
 use Rattle.xds_ledger.specs.declared.outcome.Outcome.{Outcome}
 use Rattle.xds_ledger.specs.Sessions.{Session, unopened, sotw_names, delta_names}
-use Rattle.xds_core.proofs.StepLaws.{done_with, unless_once}
+use Rattle.xds_core.proofs.StepLaws.{done_with}
 use Rattle.xds_sessions.specs.DeltaPolls.{mention}
 use Rattle.xds_core.specs.Streams.{Stream, Message, Sotw, Delta, variant_of, url_of, cluster_of, is_same_variant, is_foreign, session_after, answered_by, answered, sessions_for, requested}
 use Rattle.xds_check.specs.declared.asking.Asking.TheVariants as askings

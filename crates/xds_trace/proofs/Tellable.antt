@@ -1,9 +1,9 @@
 -- That every record of a replica can be told in a trace: what it sent are resources of their types, and what it deleted has a name that a
 -- resource may have.
-use Rattle.std.proofs.Common.{◌≡◌, ◌≢◌, ◌⊎◌, inl, inr, ℕ, List, [], ◌∷◌, ◌++◌, map, reverse, Bool, true, false, ◌||◌, Option, Some, None, Result, Ok, Err, refl, sym, ap, subst, ◌∙◌}
-use Rattle.std.specs.Prelude.{if◌then◌else◌, not, bytes_eq, IfSome, IfOk, IsOk, All, ⊤}
+use Rattle.std.proofs.Common.{◌≡◌, ◌≢◌, ◌⊎◌, inl, inr, ℕ, List, [], ◌∷◌, ◌++◌, map, reverse, Bool, true, false, ◌||◌, Option, Some, None, Ok, Err, refl, sym, ap, subst, ◌∙◌}
+use Rattle.std.specs.Prelude.{if◌then◌else◌, not, bytes_eq, IfSome, IfOk, All, ⊤}
 use Rattle.std.specs.List.{flat_map, list_any}
-use Rattle.std.specs.Option.{ForSome, option_map_or, option_and_then}
+use Rattle.std.specs.Option.{option_map_or, option_and_then}
 use Rattle.std.specs.FinMap as finmap
 use Rattle.std.proofs.lemmas.List.Elements.{All-nil, All-cons, All-head, All-tail, All-append}
 use Rattle.xds_resource.specs.declared.types.TypeName.{TypeName}
@@ -14,13 +14,12 @@ use Rattle.xds_resource.specs.declared.refusal.Refusal.TheVariants.{NotFound}
 use Rattle.xds_resource.specs.Any.{write_type, stamped_write}
 use Rattle.xds_resource.specs.PerType.{at, with_at}
 use Rattle.xds_resource.specs.Refusals.{unless_refused}
-use Rattle.xds_resource.specs.Resources.{NamedBody, IsCanonical, IsWritable, is_valid_name, from_value, value_of, written, deleted}
+use Rattle.xds_resource.specs.Resources.{NamedBody, IsCanonical, IsWritable, is_valid_name, written, deleted}
 use Rattle.xds_resource.specs.Types.{types, is_same_type}
 use Rattle.xds_resource.specs.Writes.{StampedWrite}
 use Rattle.xds_resource.proofs.NameMaps.{bytes_eq_tells}
 use Rattle.xds_resource.proofs.Naming.{canonical-valid}
 use Rattle.xds_resource.proofs.TypesApart.{same_type}
-use Rattle.xds_message.proofs.StampedWriteLemmas.{from_value-canonical}
 use Rattle.xds_interest.proofs.Choices.{and_first}
 use Rattle.xds_catalogue.specs.Content.{is_live, if_live}
 use Rattle.xds_catalogue.specs.Joins.{joined}
@@ -45,6 +44,7 @@ use Rattle.xds_trace.proofs.Following.{Keeps, keeps_fresh}
 use Rattle.xds_trace.proofs.Keeping.{event_made}
 use Rattle.xds_trace.proofs.Named.{well_named}
 use Rattle.xds_trace.proofs.Tracing.{behind}
+use Rattle.xds_trace.proofs.AnyBase.{canonical_resource, body_tellable}
 
 -- ---- writes that could be read
 
@@ -64,19 +64,11 @@ abbrev AllWell : List Line → Type 0
 AllWell [] = ⊤
 AllWell (l ∷ ls) = IsWellLine l × AllWell ls
 
-is_ok : (o : Result NamedBody Refusal) (r : NamedBody) → o ≡ Ok r → IsOk o
-is_ok (Ok x) r is = refl
-is_ok (Err e) r is = absurd cc
-
 canonical_well : (t : TypeName) (r : NamedBody) → IsCanonical t r → (is_valid_name r.name ≡ true) × IsResource t r.body
-canonical_well t r canonical = (canonical-valid t r canonical, is_ok (from_value t (value_of r.body)) r (from_value-canonical t r canonical))
-
-body_well : (t : TypeName) (name : List ℕ) (o : Option (List ℕ)) → ForSome o (λ b. IsCanonical t (record { name = name; body = b })) → IfSome o (IsResource t)
-body_well t name None canonical = tt
-body_well t name (Some b) canonical = (canonical_well t (record { name = name; body = b }) (canonical b refl)).1
+canonical_well t r canonical = (canonical-valid t r canonical, canonical_resource t r canonical)
 
 writable_well : (t : TypeName) (w : StampedWrite) → IsWritable t w → IsWell t w
-writable_well t w writable = (writable.named, body_well t w.name w.body writable.body)
+writable_well t w writable = (writable.named, body_tellable t w.name w.body writable.body)
 
 line_well : (t : TypeName) (w : StampedWrite) → IsWell t w → IsWellLine (write_line t w)
 line_well Cluster w well = well

@@ -8,12 +8,13 @@ use Rattle.std.specs.FinMap.{nat_cmp-IsAntisymmetric}
 use Rattle.xds_resource.specs.declared.refusal.Refusal.{Refusal}
 use Rattle.xds_resource.specs.declared.refusal.Refusal.TheVariants.{CounterSpent, NoStream}
 use Rattle.xds_resource.specs.Stamps.{max_counter}
+use Rattle.xds_resource.proofs.Refusing.{unless_once}
 use Rattle.xds_catalogue.proofs.Lookups.{get-inserted, get-removed}
 use Rattle.xds_core.specs.Stores.{Store, putting_at, deleting_at, merging, if_done}
 use Rattle.xds_core.specs.Streams.{Stream, opening, requested, polled_first, looked_at, owes_some}
 use Rattle.xds_core.specs.Events.{Event, Open, Request, Poll, Owes, Close, Put, Delete, Merge, Snapshot, Rest, Since, Reply, Opened, Answered, Polled, Owed, Closed, Written, Merged}
 use Rattle.xds_core.specs.Steps.{Core, Step, step, with_stream, stream_step}
-use Rattle.xds_core.proofs.StepLaws.{done_with, unless_once}
+use Rattle.xds_core.proofs.StepLaws.{done_with, opened_to}
 use Rattle.xds_world.proofs.Replicas.{never}
 
 stepped_is : (p q : Reply × Core) → ◌≡◌ {A = Step} (Ok p) (Ok q) → q ≡ p
@@ -29,10 +30,6 @@ stream_found c n reply f q (Some x) has is = let made = done_with (λ p. (reply 
 pub stream_step_is : {X : Type 0} (c : Core) (n : ℕ) (reply : X → Reply) (f : Stream → Result (X × Stream) Refusal) (q : Reply × Core) → stream_step c n reply f ≡ Ok q
     → (x : Stream) × (a : X × Stream) × (finmap.get c.streams n ≡ Some x) × (f x ≡ Ok a) × (q ≡ (reply a.0, with_stream c n a.1))
 stream_step_is c n reply f q is = stream_found c n reply f q (finmap.get c.streams n) refl is
-
--- a stream opens
-abbrev pub opened_to : Core → Core
-opened_to c = record c { opened = c.opened + 1; streams = finmap.insert c.streams (c.opened + 1) opening }
 
 pub open_is : (c : Core) (q : Reply × Core) → step c Open ≡ Ok q → q ≡ (Opened (c.opened + 1), opened_to c)
 open_is c q is = unless_once (c.opened == max_counter) CounterSpent (Opened (c.opened + 1), opened_to c) q is

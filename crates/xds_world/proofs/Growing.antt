@@ -22,7 +22,9 @@ use Rattle.xds_resource.specs.Refusals.{unless_refused}
 use Rattle.xds_resource.specs.Resources.{NamedBody, written, deleted}
 use Rattle.xds_resource.specs.Stamps.{max_counter, max_writer}
 use Rattle.xds_resource.specs.Writes.{StampedWrite}
-use Rattle.xds_resource.proofs.TypesApart.{same_type, at-with_at, at-with_at_other, at-each}
+use Rattle.xds_resource.proofs.TypesApart.{same_type, at-with_at, at-with_at_other, at-each, at-per_type}
+use Rattle.xds_resource.proofs.Refusing.{unless_once}
+use Rattle.xds_resource.proofs.BoolsAndLists.{same_tails}
 use Rattle.xds_interest.specs.Interests.{Selection}
 use Rattle.xds_catalogue.specs.Holdings.{Holdings, nothing_held, IsCatalogue}
 use Rattle.xds_catalogue.specs.Changes.{is_news}
@@ -35,9 +37,9 @@ use Rattle.xds_core.specs.Stores.{Store, Batch, putting_at, deleting_at, merging
 use Rattle.xds_core.specs.Events.{Event, Open, Request, Poll, Owes, Close, Put, Delete, Merge, Snapshot, Rest, Since, Reply, Written, Merged}
 use Rattle.xds_core.specs.Steps.{Core, step, fresh as fresh_core}
 use Rattle.xds_core.specs.Laws.{is_write}
-use Rattle.xds_core.proofs.StepLaws.{done_with, put_is, delete_is, unless_once}
+use Rattle.xds_core.proofs.StepLaws.{done_with, put_is, delete_is}
 use Rattle.xds_world.specs.Worlds.{Site, World, recorded}
-use Rattle.xds_world.proofs.Replicas.{some_is, never, none_there, both_parts, at-per_type, answered, unwritten}
+use Rattle.xds_world.proofs.Replicas.{some_is, never, none_there, both_parts, answered, unwritten}
 use Rattle.xds_world.proofs.Origins.{SitesCome}
 
 -- ---- version texts
@@ -49,9 +51,6 @@ NoPoint bs = (i : ℕ) → i < length bs → get_or bs i 0 ≢ 46
 decimal_without_point : (n : ℕ) → n < 2 ^ 64 → NoPoint (decimal n)
 decimal_without_point n small =
     let own = numerals_by_value (AllDigits 10) tells_digits in not_in_digits own (decimal n) 46 (digits_decimal own n small) (λ r. omega (arith, r))
-
-same_tails : (x y : ℕ) (xs ys : List ℕ) → x ∷ xs ≡ y ∷ ys → (x ≡ y) × (xs ≡ ys)
-same_tails x y xs ys e = (cc, cc)
 
 -- what stands before the first point, and what stands after it
 same_parts : (xs us ys vs : List ℕ) → NoPoint xs → NoPoint us → xs ++ 46 ∷ ys ≡ us ++ 46 ∷ vs → (xs ≡ us) × (ys ≡ vs)

@@ -1,5 +1,6 @@
 -- The clients' half of the headline: a settled client shows exactly what its replica knows of what it wants.
 use Rattle.std.proofs.Common.{◌≡◌, ℕ, List, [], ◌∷◌, ◌++◌, Bool, true, false, not, Option, Some, None, refl, sym, ap, subst, ◌∙◌}
+use Rattle.std.proofs.lemmas.Bool.{not-true}
 use Rattle.std.specs.Prelude.{option_map}
 use Rattle.std.specs.Option.{option_and_then, option_map_or}
 use Rattle.std.specs.FinMap as finmap
@@ -17,7 +18,7 @@ use Rattle.xds_world.specs.Knows.{TypedWrite, Knowledge, nothing_known, known_af
 use Rattle.xds_world.specs.Claims.{writes_of, shown_of, content_at, PutResources, PutsAResource, SettledIsExact, SettledAgrees, Headline, is_quiet, owes_nothing, is_settled_on, is_settled}
 use Rattle.xds_world.proofs.Replicas.{both_parts, holds_what_it_knows, same_knowledge, some_is}
 use Rattle.xds_world.proofs.Origins.{one_write_a_stamp}
-use Rattle.xds_world.proofs.Ranges.{opposite, sites_known}
+use Rattle.xds_world.proofs.Ranges.{sites_known}
 use Rattle.xds_world.proofs.ByKind.{LinkedTo}
 use Rattle.xds_world.proofs.Everyone.{stream_at}
 use Rattle.xds_world.proofs.Sure.{sure}
@@ -53,7 +54,7 @@ at_rest w c p t has settled =
     let parts = both_parts (is_quiet t up.0) (option_map_or (owes_nothing t up.0.stream) (finmap.get w.sites up.0.replica) false) up.2 in
     let site = found_true (owes_nothing t up.0.stream) (finmap.get w.sites up.0.replica) parts.1 in
     let stream = found_true (λ x. not (owes_of site.0.core.store x t)) (finmap.get site.0.core.streams up.0.stream) site.2 in
-    record { link = up.0; linked = up.1; quiet = parts.0; site = site.0; there = site.1; stream = stream.0; opened = stream.1; nothing = opposite (owes_of site.0.core.store stream.0 t) stream.2 }
+    record { link = up.0; linked = up.1; quiet = parts.0; site = site.0; there = site.1; stream = stream.0; opened = stream.1; nothing = not-true (owes_of site.0.core.store stream.0 t) stream.2 }
 
 -- the same with what is kept of its link: its stream, its replica, and what that holds
 pub record Settled (test : Test) (hs : List Happening) (c r : ℕ) (p : Peer) (t : TypeName) : Type 0 where

@@ -1,5 +1,5 @@
 -- One client and one type of the incremental variant: the session as it will be once all requests under way are taken, against what the client holds.
-use Rattle.std.proofs.Common.{◌≡◌, ◌⊎◌, inl, inr, ℕ, suc, List, [], ◌∷◌, Bool, true, false, ◌&&◌, not, Option, Some, None, refl, sym, ap, ◌∙◌, ◌≤◌, length, map}
+use Rattle.std.proofs.Common.{◌≡◌, ◌⊎◌, inl, inr, ℕ, suc, List, [], Bool, true, false, ◌&&◌, not, Option, Some, None, refl, sym, ap, ◌∙◌, ◌≤◌}
 use Rattle.std.specs.Prelude.{bytes_eq, if◌then◌else◌, is_some, is_none, option_map, Contains, ⊤}
 use Rattle.std.specs.Option.{option_map_or}
 use Rattle.std.specs.FinMap as finmap
@@ -27,10 +27,10 @@ use Rattle.xds_ledger.specs.Sessions.{Session, Answer, Names, unopened, taken, i
 use Rattle.xds_ledger.proofs.BeliefsByName.{taken_by_name}
 use Rattle.xds_ledger.proofs.Made.{resumed_by_name}
 use Rattle.xds_sessions.specs.DeltaPolls.{take, mention, answer_in}
-use Rattle.xds_cache.specs.Shelves.{Wants, Holding, Cache, Shelf, texts, interest, is_wanted, wants_some, wants_of, wants_after}
+use Rattle.xds_cache.specs.Shelves.{Wants, Holding, Cache, Shelf, interest, is_wanted, wants_some, wants_of, wants_after}
 use Rattle.xds_cache.specs.Deliveries.{delta_delivery, statements}
 use Rattle.xds_cache.specs.Sends.{failure, delta_answer}
-use Rattle.xds_cache.proofs.Interests.{wanted_by_name, change_is_asked}
+use Rattle.xds_cache.proofs.Interests.{wanted_by_name, change_is_asked, no_texts}
 use Rattle.xds_world.specs.Knows.{TypedWrite}
 use Rattle.xds_world.specs.Claims.{holding_of}
 use Rattle.xds_world.proofs.Folding.{take_is, never_stale}
@@ -140,13 +140,6 @@ same_wants : (w : Wants) → wants_after finmap.empty finmap.empty w ≡ w
 same_wants w =
     same_names (wants_after finmap.empty finmap.empty w) w
     (λ q. wanted_by_name finmap.empty finmap.empty w q ∙ ap (λ (o : Option (Unit {0})). if is_some o then Some tt else if is_some o then None else finmap.get w q) (finmap.get-empty text_cmp q))
-
-none_left : (es : List (List ℕ × Unit {0})) → length es ≡ 0 → es ≡ []
-none_left [] is = refl
-none_left (e ∷ es) is = absurd cc
-
-pub no_texts : texts finmap.empty ≡ []
-no_texts = ap (map (λ e. e.0)) (none_left (finmap.entries {R = text_cmp} finmap.empty) (sym (finmap.len-entries {R = text_cmp} finmap.empty) ∙ finmap.len-empty text_cmp (Unit {0})))
 
 asked_again : (cluster : List ℕ) (t : TypeName) (w : Wants) → delta_asked t (asking cluster t w) (record { subscribe = []; unsubscribe = [] }) ≡ asking cluster t w
 asked_again cluster t w =

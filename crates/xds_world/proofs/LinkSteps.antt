@@ -5,6 +5,7 @@ use Rattle.std.specs.Option.{option_map_or, option_and_then}
 use Rattle.std.specs.List.{cons_option}
 use Rattle.std.specs.FinMap as finmap
 use Rattle.std.proofs.lemmas.Bool.Decides.{eqb_tells}
+use Rattle.std.proofs.Math.Numerals.{suc-eq-add-one}
 use Rattle.xds_resource.specs.declared.types.TypeName.{TypeName}
 use Rattle.xds_resource.specs.declared.refusal.Refusal.{Refusal}
 use Rattle.xds_resource.specs.declared.refusal.Refusal.TheVariants.{BadMessage, WrongVariant, NonceSpent}
@@ -13,6 +14,7 @@ use Rattle.xds_resource.specs.Types.{row, type_of_url, is_same_type}
 use Rattle.xds_resource.specs.Stamps.{max_counter}
 use Rattle.xds_resource.specs.PerType.{PerType, at, with_at, each}
 use Rattle.xds_resource.proofs.TypesApart.{same_type, is_same_type-same, at-with_at, at-with_at_other, at-each}
+use Rattle.xds_resource.proofs.Refusing.{unless_once}
 use Rattle.xds_interest.specs.Asked.{IsStarOfComplete}
 use Rattle.xds_interest.proofs.AskedLaws.{kept_star_is_of_complete}
 use Rattle.xds_catalogue.specs.Holdings.{Entries}
@@ -32,7 +34,7 @@ use Rattle.xds_sessions.specs.DeltaPolls.{take, mention, response}
 use Rattle.xds_core.specs.Stores.{Store, if_done}
 use Rattle.xds_core.specs.Streams as streams
 use Rattle.xds_core.specs.Streams.{Stream, Message, cluster_of, is_foreign, sessions_for, answered_by, answered, requested, to_send, response_of, responding, sent, polled, first_due, polled_first}
-use Rattle.xds_core.proofs.StepLaws.{unless_once, done_with}
+use Rattle.xds_core.proofs.StepLaws.{done_with}
 use Rattle.xds_cache.specs.Shelves.{Shelf}
 use Rattle.xds_cache.specs.Clients.{Client, shelf}
 use Rattle.xds_world.specs.Worlds.{Link}
@@ -241,9 +243,6 @@ poll_lane cluster all replica store x s t o l f known room due (inr other) lane 
 pub room_is : (count : ℕ) → (count == max_counter) ≡ false → count ≤ max_counter → suc count ≤ max_counter
 room_is count not_full within = elim (eqb_tells count max_counter) [ inl same ↦ (let never : true ≡ false = sym same.0 ∙ not_full in absurd cc) | inr other ↦ omega (arith, within, other.1) ]
 
-pub one_more : (n : ℕ) → n + 1 ≡ suc n
-one_more n = omega arith
-
 -- the replica sent a response
 pub linked_polled : (all : List TypedWrite) (replica : ℕ) (store : Store) (c : Client) (l : Link) (x y : Stream) (d : Draft) → ((t : TypeName) → AllKnown all t (at store t).entries) → IsSent replica store x y d → Linked all c l x
     → Linked all c (record l { down = l.down ++ d ∷ [] }) y
@@ -252,9 +251,9 @@ linked_polled all replica store c l x y d known is linked =
     let room = room_is x.count is.room linked.counted in
     let same : d ≡ drafts.Delta (response replica is.kind (at store is.kind) is.offer (suc x.count)) =
     some_is d (drafts.Delta (response replica is.kind (at store is.kind) is.offer (x.count + 1))) (is.sends ∙ ap (option_map (response_of replica store x.sessions is.kind is.offer (x.count + 1))) due.0)
-    ∙ ap (λ n. drafts.Delta (response replica is.kind (at store is.kind) is.offer n)) (one_more x.count) in
+    ∙ ap (λ n. drafts.Delta (response replica is.kind (at store is.kind) is.offer n)) (sym (suc-eq-add-one x.count)) in
     let left : y ≡ record { variant = x.variant; count = suc x.count; sessions = with_at x.sessions is.kind (send (at x.sessions is.kind) is.offer (suc x.count)) } =
-    is.left ∙ (λ i. record { variant = x.variant; count = one_more x.count i; sessions = with_at x.sessions is.kind (send (at x.sessions is.kind) is.offer (one_more x.count i)) }) in
+    is.left ∙ (λ i. record { variant = x.variant; count = sym (suc-eq-add-one x.count) i; sessions = with_at x.sessions is.kind (send (at x.sessions is.kind) is.offer (sym (suc-eq-add-one x.count) i)) }) in
     subst (λ e. Linked all c (record l { down = l.down ++ e ∷ [] }) y) (sym same)
     (subst (Linked all c (record l { down = l.down ++ drafts.Delta (response replica is.kind (at store is.kind) is.offer (suc x.count)) ∷ [] })) (sym left)
     (record {

@@ -12,7 +12,7 @@ use Rattle.xds_resource.specs.Types.{row, types, is_same_type}
 use Rattle.xds_resource.specs.Writes.{text_cmp}
 use Rattle.xds_resource.specs.PerType.{at, with_at}
 use Rattle.xds_resource.proofs.NameMaps.{same_names, get-tabulated, absent_key}
-use Rattle.xds_resource.proofs.TypesApart.{same_type, is_same_type-same, at-with_at, at-with_at_other, at-each}
+use Rattle.xds_resource.proofs.TypesApart.{same_type, is_same_type-same, at-with_at, at-with_at_other, at-each, at-per_type}
 use Rattle.xds_interest.specs.Interests.{star_text}
 use Rattle.xds_interest.specs.SotW.{is_named}
 use Rattle.xds_interest.specs.Asked.{unasked, delta_asked, IsStarOfComplete}
@@ -36,14 +36,14 @@ use Rattle.xds_cache.specs.Sends.{delta_request, delta_answer, delta_first}
 use Rattle.xds_cache.specs.Shelves.{cached_version}
 use Rattle.xds_cache.specs.Shelves.{cached_versions}
 use Rattle.xds_cache.specs.Receives.{Outcome, delta_receive, delta_answered, if_addressed}
-use Rattle.xds_cache.proofs.Interests.{kept_by_name, holds_what_is_wanted, first_change_is_asked, first_is_asked}
+use Rattle.xds_cache.proofs.Interests.{kept_by_name, holds_what_is_wanted, first_change_is_asked, first_is_asked, no_texts}
 use Rattle.xds_world.specs.declared.event.ClientKind.TheVariants.{Delta}
 use Rattle.xds_world.specs.Worlds.{Link, received_in, received_by, opening_requests}
 use Rattle.xds_world.specs.Knows.{TypedWrite}
-use Rattle.xds_world.proofs.Replicas.{some_is, at-per_type}
+use Rattle.xds_world.proofs.Replicas.{some_is}
 use Rattle.xds_world.proofs.Folding.{folded, folded_more, taken_more}
 use Rattle.xds_world.proofs.ByOneName.{version_held}
-use Rattle.xds_world.proofs.Lanes.{IsMade, Asks, Abreast, nothing_sent, taken_if_plain, no_texts}
+use Rattle.xds_world.proofs.Lanes.{IsMade, Asks, Abreast, nothing_sent, taken_if_plain}
 use Rattle.xds_world.proofs.LaneSteps.{abreast_delivered, taken_delivered, abreast_changed, abreast_first, kept_made}
 use Rattle.xds_world.proofs.Queues.{of_type, lane_up, lane_up-append, of_own_type, of_other_type, AllDelta, all_delta-append, lane_down, all_numbered-append, listed_draft, Lane, Linked, started}
 use Rattle.xds_world.proofs.LinkSteps.{undecided_session, quiet_folded}

@@ -7,8 +7,8 @@ use Rattle.std.specs.Ordering.{nat_cmp}
 use Rattle.std.specs.Cmp.{nat_cmp_total}
 use Rattle.std.specs.FinMap as finmap
 use Rattle.std.specs.FinMap.{FinMap, nat_cmp-IsAntisymmetric}
-use Rattle.std.proofs.lemmas.Bool.Decides.{eqb_tells}
 use Rattle.std.proofs.lemmas.List.Elements.{Contains-append_left, Contains-append_right, Contains-append_cases}
+use Rattle.std.proofs.lemmas.Bool.{eq-eqb}
 use Rattle.xds_resource.specs.declared.types.TypeName.{TypeName}
 use Rattle.xds_resource.specs.Types.{is_same_type}
 use Rattle.xds_resource.specs.PerType.{at}
@@ -16,6 +16,7 @@ use Rattle.xds_resource.specs.Resources.{NamedBody, written, deleted}
 use Rattle.xds_resource.specs.Writes.{StampedWrite}
 use Rattle.xds_resource.proofs.TypesApart.{is_same_type-same}
 use Rattle.xds_resource.proofs.BestWrites.{Contains-cons_cases, Contains-tail, Contains-head}
+use Rattle.xds_resource.proofs.BoolsAndLists.{none_in}
 use Rattle.xds_catalogue.specs.Holdings.{Holdings}
 use Rattle.xds_catalogue.specs.Local.{greatest_counter}
 use Rattle.xds_catalogue.proofs.Counters.{counter-le, greatest_counter-held}
@@ -38,9 +39,6 @@ use Rattle.xds_world.specs.Claims.{writes_of, OneWriteAStamp}
 use Rattle.xds_world.proofs.Replicas.{Kept, kept_start, kept_step, answered, some_is, never, mapped_some, bound_some, if_some, if_then, on_link_some, IsOf, opened_is, polled_is, rest_poll_is}
 
 -- ---- lists
-
-pub none_in : {X : Type 0} (x : X) → Contains [] x → ⊥
-none_in x h = let below = h.1 in absurd (omega (arith, below))
 
 pub alone : {X : Type 0} (x y : X) → Contains (x ∷ []) y → x ≡ y
 alone x y h = elim (Contains-cons_cases x y [] h) [ inl same ↦ same | inr rest ↦ absurd (none_in y rest) ]
@@ -82,9 +80,6 @@ known_below w k r s x kept has known =
 not_twice : (n g : ℕ) → n ≡ g + 1 → n ≤ g → ⊥
 not_twice n g is within = omega (arith, is, within)
 
-itself : (r : ℕ) → (r == r) ≡ true
-itself r = elim (eqb_tells r r) [ inl same ↦ same.0 | inr other ↦ absurd (other.1 refl) ]
-
 learned_cases : (k : Knowledge) (r q : ℕ) (b : Bool) (wr x : TypedWrite) → (q == r) ≡ b → Contains (if b then k.at q ++ wr ∷ [] else k.at q) x → (Contains (k.at q) x) ⊎ (wr ≡ x)
 learned_cases k r q true wr x is h =
     elim (Contains-append_cases (k.at q) (wr ∷ []) x h) [
@@ -121,7 +116,7 @@ stamped_more w left k all r s wr has writer counter numbers kept stamped = recor
         | inr new ↦
             let is = alone wr x new in
             subst (λ y. Contains ((learning k r (wr ∷ [])).at y.1.writer) y) is
-            (subst (λ q. Contains ((learning k r (wr ∷ [])).at q) wr) (sym writer) (subst (λ b. Contains (if b then k.at r ++ wr ∷ [] else k.at r) wr) (sym (itself r)) (Contains-append_right (k.at r) (wr ∷ []) wr (Contains-head wr []))))
+            (subst (λ q. Contains ((learning k r (wr ∷ [])).at q) wr) (sym writer) (subst (λ b. Contains (if b then k.at r ++ wr ∷ [] else k.at r) wr) (sym (eq-eqb r r refl)) (Contains-append_right (k.at r) (wr ∷ []) wr (Contains-head wr []))))
       ];
   unique = λ x y made_x made_y same_type same_counter same_writer.
       elim (Contains-append_cases all (wr ∷ []) x made_x) [

@@ -7,7 +7,7 @@ use Rattle.std.specs.Ordering.{nat_cmp}
 use Rattle.std.specs.Cmp.{nat_cmp_total}
 use Rattle.std.specs.FinMap as finmap
 use Rattle.std.specs.FinMap.{nat_cmp-IsAntisymmetric}
-use Rattle.std.proofs.lemmas.Bool.{ltb-true, ltb-false}
+use Rattle.std.proofs.lemmas.Bool.{ltb-true, ltb-false, not-true}
 use Rattle.std.proofs.lemmas.Bool.Decides.{eqb_tells}
 use Rattle.std.proofs.lemmas.List.Elements.{Contains-append_cases}
 use Rattle.xds_resource.specs.declared.types.TypeName.{TypeName}
@@ -21,6 +21,7 @@ use Rattle.xds_resource.specs.Writes.{StampedWrite}
 use Rattle.xds_resource.specs.Best.{best}
 use Rattle.xds_resource.proofs.BestWrites.{IsGreatest-best, Contains-cons_cases, Contains-tail, Contains-head}
 use Rattle.xds_resource.proofs.TypesApart.{same_type}
+use Rattle.xds_resource.proofs.BoolsAndLists.{none_in}
 use Rattle.xds_catalogue.specs.Holdings.{Holdings}
 use Rattle.xds_catalogue.specs.Joins.{joined}
 use Rattle.xds_catalogue.specs.Local.{greatest_counter, next_counter, has_live, putting, deleting}
@@ -39,7 +40,7 @@ use Rattle.xds_world.specs.Knows.{TypedWrite, Knowledge, made_now, made as made_
 use Rattle.xds_world.specs.Journal.{event_at}
 use Rattle.xds_world.specs.Claims.{writes_of, PutsAResource}
 use Rattle.xds_world.proofs.Replicas.{Kept, some_is, mapped_some, both_parts, answered}
-use Rattle.xds_world.proofs.Origins.{none_in, alone, Stamped, SitesCome, sites_come}
+use Rattle.xds_world.proofs.Origins.{alone, Stamped, SitesCome, sites_come}
 use Rattle.xds_world.proofs.EveryEvent.{AllSitesKnown}
 
 -- ---- writes of a type
@@ -116,16 +117,12 @@ ranged_same w left all sites ranged = subst (Ranged left) (sym (append-nil all))
 abbrev pub AllInRange : World → Type 0
 AllInRange w = (r : ℕ) (s : Site) → finmap.get w.sites r ≡ Some s → (1 ≤ r) × (r ≤ max_writer)
 
-pub opposite : (b : Bool) → not b ≡ true → b ≡ false
-opposite true is = absurd cc
-opposite false is = refl
-
 free_in_range : (w : World) (r : ℕ) → is_free w r ≡ true → (1 ≤ r) × (r ≤ max_writer)
 free_in_range w r is =
     let free = both_parts (nat_lt 0 r && not (nat_lt max_writer r)) (is_none (finmap.get w.sites r)) is in
     let range = both_parts (nat_lt 0 r) (not (nat_lt max_writer r)) free.0 in
     let above : 0 < r = ltb-true 0 r range.0 in
-    let below : r ≤ max_writer = ltb-false max_writer r (opposite (nat_lt max_writer r) range.1) in
+    let below : r ≤ max_writer = ltb-false max_writer r (not-true (nat_lt max_writer r) range.1) in
     (omega (arith, above), below)
 
 in_range_come : (w left : World) (o : Option (ℕ × Event)) → SitesCome w left o → AllInRange w → AllInRange left

@@ -1,6 +1,6 @@
 -- The replicas' half of the headline: what a replica holds are the best writes of what it knows.
 use Rattle.std.proofs.Common.{◌≡◌, ◌≢◌, ◌⊎◌, inl, inr, ℕ, zero, suc, List, [], ◌∷◌, ◌++◌, map, Bool, true, false, Option, Some, None, Result, Ok, Err, refl, sym, ap, subst, ◌∙◌, append-nil}
-use Rattle.std.specs.Prelude.{◌==◌, ◌&&◌, not, nat_lt, if◌then◌else◌, is_none, option_map, ⊤}
+use Rattle.std.specs.Prelude.{◌&&◌, not, nat_lt, if◌then◌else◌, is_none, option_map, ⊤}
 use Rattle.std.specs.Option.{option_and_then, option_map_or}
 use Rattle.std.specs.List.{filter}
 use Rattle.std.specs.Ordering.{nat_cmp}
@@ -8,17 +8,16 @@ use Rattle.std.specs.Cmp.{nat_cmp_total}
 use Rattle.std.specs.FinMap as finmap
 use Rattle.std.specs.FinMap.{FinMap, nat_cmp-IsAntisymmetric}
 use Rattle.std.proofs.lemmas.List.{map-append}
-use Rattle.std.proofs.lemmas.Bool.{ne_eqb}
-use Rattle.std.proofs.lemmas.Bool.Decides.{eqb_tells}
+use Rattle.std.proofs.lemmas.Bool.{ne_eqb, eq-eqb}
 use Rattle.xds_resource.specs.declared.types.TypeName.{TypeName}
 use Rattle.xds_resource.specs.Types.{is_same_type}
 use Rattle.xds_resource.specs.Stamps.{max_writer}
-use Rattle.xds_resource.specs.PerType.{per_type, at, with_at, each}
-use Rattle.xds_resource.specs.declared.types.TypeName.TheVariants.{Cluster, Endpoint, Listener, Route, Secret}
+use Rattle.xds_resource.specs.PerType.{at, with_at, each}
 use Rattle.xds_resource.specs.declared.refusal.Refusal.{Refusal}
 use Rattle.xds_resource.specs.declared.refusal.Refusal.TheVariants.{CounterSpent}
 use Rattle.xds_resource.specs.Resources.{NamedBody, written, deleted}
-use Rattle.xds_resource.proofs.TypesApart.{same_type, is_same_type-same, at-with_at, at-with_at_other, at-each}
+use Rattle.xds_resource.proofs.TypesApart.{same_type, is_same_type-same, at-with_at, at-with_at_other, at-each, at-per_type}
+use Rattle.xds_resource.proofs.Refusing.{unless_once}
 use Rattle.xds_resource.specs.Writes.{StampedWrite}
 use Rattle.xds_catalogue.specs.Holdings.{Holdings, nothing_held, catalogue_of}
 use Rattle.xds_catalogue.specs.Joins.{joined}
@@ -37,7 +36,7 @@ use Rattle.xds_cache.specs.Clients.{Client, unlinked}
 use Rattle.xds_core.specs.Steps.{Core, Step, step, fresh as fresh_core}
 use Rattle.xds_core.specs.Legal.{left_by}
 use Rattle.xds_core.specs.Laws.{is_write}
-use Rattle.xds_core.proofs.StepLaws.{only_writes_change_the_store, done_with, put_is, delete_is, unless_once}
+use Rattle.xds_core.proofs.StepLaws.{only_writes_change_the_store, done_with, put_is, delete_is}
 use Rattle.xds_world.specs.Worlds.{Site, Link, Peer, World, empty_world, recorded, answered_at, at_site, happened_at, placed, pooled, with_peer, new_peer, connected_to, opened, changed, wish_taken, under_way, polled, up_taken, received, taken_down, down_taken, on_link, is_free, is_to_connect, poll_of, poll_event, answer_taken, rested, rest_polled, happens, after}
 use Rattle.xds_world.specs.Knows.{TypedWrite, Knowledge, nothing_known, learning, learned, known_after, knows, made as made_of}
 use Rattle.xds_world.specs.declared.event.AnswerFate.{AnswerFate}
@@ -69,9 +68,6 @@ joined_best h vs ws batch is best = (λ i. catalogue_of (finmap.values (is i) ++
 
 pub never : {X : Type 0} (x : X) → None ≡ Some x → ⊥
 never x e = absurd cc
-
-itself : (r : ℕ) → (r == r) ≡ true
-itself r = elim (eqb_tells r r) [ inl same ↦ same.0 | inr other ↦ absurd (other.1 refl) ]
 
 -- ---- what replicas hold
 
@@ -160,7 +156,7 @@ still_unknown sites r q site none =
 pub site_learned : (w : World) (k : Knowledge) (r : ℕ) (site : Site) (ws : List TypedWrite) → ((t : TypeName) → (at site.core.store t).entries ≡ catalogue_of (writes_of t (k.at r ++ ws))) → Kept w k
     → Kept (record w { sites = finmap.insert w.sites r site }) (learning k r ws)
 site_learned w k r site ws here kept = record {
-  holds = put_holds w.sites k.at (learning k r ws).at r site (λ t. here t ∙ ap (λ b. catalogue_of (writes_of t (if b then k.at r ++ ws else k.at r))) (sym (itself r))) (λ q other. ap (λ b. if b then k.at q ++ ws else k.at q) (ne_eqb q r (λ e. other (sym e)))) kept.holds;
+  holds = put_holds w.sites k.at (learning k r ws).at r site (λ t. here t ∙ ap (λ b. catalogue_of (writes_of t (if b then k.at r ++ ws else k.at r))) (sym (eq-eqb r r refl))) (λ q other. ap (λ b. if b then k.at q ++ ws else k.at q) (ne_eqb q r (λ e. other (sym e)))) kept.holds;
   carries = kept.carries;
   unknown = λ q none. let gone = still_unknown w.sites r q site none in ap (λ b. if b then k.at q ++ ws else k.at q) (ne_eqb q r (λ e. gone.0 (sym e))) ∙ kept.unknown q gone.1;
 }
@@ -201,14 +197,6 @@ placed_known p known t u wr h = by_type (same_type t u)
     by_type (inr other) =
         ap (λ (h : Holdings). h.entries) (at-with_at_other p t (joined (at p t) (wr ∷ [])) u (λ e. other.0 (sym e))) ∙ h u ∙ ap catalogue_of (sym (append-nil (writes_of u known)))
         ∙ ap (λ b. catalogue_of (writes_of u known ++ map (λ (x : TypedWrite). x.1) (if b then (t, wr) ∷ [] else []))) (sym other.1)
-
--- what is made for each type is there
-pub at-per_type : {X : Type 0} (f : TypeName → X) (t : TypeName) → at (per_type f) t ≡ f t
-at-per_type f Cluster = refl
-at-per_type f Endpoint = refl
-at-per_type f Listener = refl
-at-per_type f Route = refl
-at-per_type f Secret = refl
 
 -- a replica that wrote, from what its step leaves
 own_write : (w : World) (k : Knowledge) (r : ℕ) (s site : Site) (t : TypeName) (wr : StampedWrite) → finmap.get w.sites r ≡ Some s → site.core.store ≡ with_at s.core.store t (joined (at s.core.store t) (wr ∷ [])) → Kept w k

@@ -1,5 +1,5 @@
 -- How far a script was read: what its lines so far say, and that none of them is bad.
-use Rattle.std.proofs.Common.{◌≡◌, ◌≢◌, ◌<◌, ◌≤◌, ◌+◌, ◌-◌, ℕ, List, [], ◌∷◌, ◌++◌, length, take, Bool, true, false, cond, Option, Some, None, Ok, Err, inl, inr, refl, ap, sym, ◌∙◌, arith, append_assoc, append-nil, length-append, length-take}
+use Rattle.std.proofs.Common.{◌≡◌, ◌≢◌, ◌<◌, ◌≤◌, ◌+◌, ◌-◌, ℕ, List, [], ◌∷◌, ◌++◌, length, Bool, true, false, cond, Option, Some, None, Ok, Err, inl, inr, refl, ap, sym, ◌∙◌, arith, append_assoc, append-nil, length-append}
 use Rattle.std.specs.Prelude.{slice_index, ◌==◌, is_none, unwrap_or}
 use Rattle.std.specs.Option.{ok_or, option_map, option_to_list}
 use Rattle.std.specs.List.{flat_map, position_from}
@@ -9,6 +9,7 @@ use Rattle.std.proofs.lemmas.Grind.{flat_map-append}
 use Rattle.xds_resource.specs.declared.refusal.Refusal.{Refusal}
 use Rattle.xds_resource.specs.declared.refusal.Refusal.TheVariants.{OutOfMemory, BadScript}
 use Rattle.xds_resource.proofs.Refusing.{memory_or_not}
+use Rattle.xds_resource.proofs.BoolsAndLists.{shorter_if}
 use Rattle.xds_world.specs.Lines.{feed, lines, pieces, without_last_feed}
 use Rattle.xds_world.specs.Words.{words}
 use Rattle.xds_world.specs.Commands.{Said, says_words}
@@ -21,10 +22,6 @@ pub record IsReadTo (script rest : List ℕ) (line : ℕ) (said : List Said) : T
   pub says : said ≡ flat_map said_in before
   pub number_is : line ≡ length before + 1
   pub short : length before + length rest ≤ length script
-
-shorter_if : (b : Bool) (n : ℕ) (bs : List ℕ) → length (cond b (take n bs) bs) ≤ length bs
-shorter_if true n bs = omega (arith, length-take n bs)
-shorter_if false n bs = omega arith
 
 pub read_none : (script : List ℕ) → IsReadTo script (without_last_feed script) 1 []
 read_none script = record {

@@ -12,6 +12,7 @@ use Rattle.xds_resource.specs.Stamps.{IsStamp}
 use Rattle.xds_resource.specs.Writes.{StampedWrite, version_of}
 use Rattle.xds_resource.proofs.VersionTexts.{version_text_injective}
 use Rattle.xds_resource.proofs.TypesApart.{at-each}
+use Rattle.xds_resource.proofs.BoolsAndLists.{both_false}
 use Rattle.xds_interest.specs.Interests.{Selection, reaches, covers}
 use Rattle.xds_interest.proofs.Reaching.{covered_is_reached}
 use Rattle.xds_interest.specs.Asked.{Asked}
@@ -133,11 +134,6 @@ none_down t (d ∷ ds) none =
 none_listed : (down : Option DraftedDelta) → [] ≡ listed_draft down → down ≡ None
 none_listed None is = refl
 none_listed (Some d) is = absurd cc
-
-pub both_false : (a b : Bool) → (not a && not b) ≡ true → (a ≡ false) × (b ≡ false)
-both_false true b is = absurd cc
-both_false false true is = absurd cc
-both_false false false is = (refl, refl)
 
 -- a stream that owes nothing of a type
 pub owed_by : (v : VariantName) (cluster : List ℕ) (x : Stream) (store : Store) (t : TypeName) → Speaks v cluster x → owes_of store x t ≡ false → (at x.sessions t).asked.begun ≡ true → sessions.owes v t (at x.sessions t) (at store t).entries ≡ false

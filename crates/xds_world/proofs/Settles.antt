@@ -4,6 +4,7 @@ use Rattle.std.specs.Prelude.{is_some}
 use Rattle.std.proofs.lemmas.List.{append-nil, append_assoc}
 use Rattle.std.proofs.lemmas.List.Folds.{list_any-append}
 use Rattle.std.proofs.Math.Seq.{drop-append_seam}
+use Rattle.std.proofs.Math.Bool.{or-false, or-true}
 use Rattle.xds_resource.specs.declared.types.TypeName.{TypeName}
 use Rattle.xds_cache.specs.Faults.{Test}
 use Rattle.xds_world.specs.Happenings.{Happening, Up, Poll, Down}
@@ -26,8 +27,6 @@ use Rattle.xds_world.proofs.Plays.{played_one, after_both}
 use Rattle.xds_world.proofs.Weights.{weight, up_lightens, down_lightens, poll_burdens}
 use Rattle.xds_ledger.proofs.SomethingOwed.{is_some_of}
 use Rattle.xds_world.proofs.SettlingSessions.{never_both}
-use Rattle.xds_ledger.proofs.Stored.{or_true}
-use Rattle.xds_interest.proofs.Listed.{or-false}
 
 -- what was done since, from the world of a list to another, with how many responses of the type taken
 pub record Settles (test : Test) (c : ℕ) (t : TypeName) (before now : List Happening) (x : World) (responses : ℕ) : Type 0 where
@@ -151,7 +150,7 @@ falls_by test c t before now x y responses steps.Down is next happened gave =
     subst (λ b. load b (weight y c) < load (polls is.more) (weight x c)) (sym (list_any-append is_poll is.more (Down c ∷ []) ∙ or-false (polls is.more)))
     (lighter (polls is.more) (weight y c) (weight x c) (down_lightens test x y c happened))
 falls_by test c t before now x y responses steps.Poll is next happened gave =
-    subst (λ b. load b (weight y c) < load (polls is.more) (weight x c)) (sym (list_any-append is_poll is.more (Poll c (Some t) ∷ []) ∙ or_true (polls is.more))) (by_polls (polls is.more) refl)
+    subst (λ b. load b (weight y c) < load (polls is.more) (weight x c)) (sym (list_any-append is_poll is.more (Poll c (Some t) ∷ []) ∙ or-true (polls is.more))) (by_polls (polls is.more) refl)
   where
     by_polls : (b : Bool) → polls is.more ≡ b → weight y c < load b (weight x c)
     by_polls true polled = absurd (never_both (gave_nothing t (Poll c (Some t)) (link_in y c)) (second_poll_is_the_last test c t before is.more x y is.put is.walked polled next happened) gave)

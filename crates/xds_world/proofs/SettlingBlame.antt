@@ -3,6 +3,7 @@ use Rattle.std.proofs.Common.{◌≡◌, ◌≢◌, ◌⊎◌, inl, inr, ℕ, su
 use Rattle.std.specs.Prelude.{if◌then◌else◌, is_some, option_map, ⊤}
 use Rattle.std.specs.Option.{option_map_or}
 use Rattle.std.proofs.lemmas.List.Elements.{Contains-append_left}
+use Rattle.std.proofs.Math.Numerals.{suc-eq-add-one}
 use Rattle.xds_resource.specs.declared.types.TypeName.{TypeName}
 use Rattle.xds_resource.specs.Types.{types, is_same_type}
 use Rattle.xds_resource.specs.Stamps.{max_counter}
@@ -263,9 +264,9 @@ fair_poll_at k all test replica store c l x y d t known is kind (inl same) linke
     let sent = ahead_sent k all c l x s is.offer linked none (room_is x.count is.room (counted_as k all c l x linked)) in
     let draft : d ≡ response_of replica store x.sessions s is.offer (suc x.count) v =
     some_is d (response_of replica store x.sessions s is.offer (suc x.count) v)
-    (is.sends ∙ ap (option_map (response_of replica store x.sessions s is.offer (x.count + 1))) due.0 ∙ ap (λ n. Some (response_of replica store x.sessions s is.offer n v)) (steps.one_more x.count)) in
+    (is.sends ∙ ap (option_map (response_of replica store x.sessions s is.offer (x.count + 1))) due.0 ∙ ap (λ n. Some (response_of replica store x.sessions s is.offer n v)) (sym (suc-eq-add-one x.count))) in
     let left : at y.sessions s ≡ send (at x.sessions s) is.offer (suc x.count) =
-    ap (λ (z : Stream). at z.sessions s) is.left ∙ at-with_at x.sessions s (send (at x.sessions s) is.offer (x.count + 1)) ∙ ap (send (at x.sessions s) is.offer) (steps.one_more x.count) in
+    ap (λ (z : Stream). at z.sessions s) is.left ∙ at-with_at x.sessions s (send (at x.sessions s) is.offer (x.count + 1)) ∙ ap (send (at x.sessions s) is.offer) (sym (suc-eq-add-one x.count)) in
     subst (λ r. IsFair all test r (ahead r (at y.sessions r) l.up) (lane_down r (l.down ++ d ∷ []))) same.0
     (subst (IsFair all test s (ahead s (at y.sessions s) l.up))
     (sym (lane_down-append s l.down (d ∷ []) ∙ ap (λ b. lane_down s l.down ++ (if b then d ∷ [] else [])) (ap (λ r. is_same_type r s) kind ∙ is_same_type-same s)))

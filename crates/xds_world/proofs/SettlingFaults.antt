@@ -7,13 +7,15 @@ use Rattle.std.specs.List.{filter, filter_map, cons_option}
 use Rattle.std.specs.FinMap as finmap
 use Rattle.std.specs.FinMap.Entries.{below_all, is_sorted}
 use Rattle.std.proofs.lemmas.Map.Text.{is_eq-slice_cmp}
+use Rattle.std.proofs.lemmas.Bool.{or_right}
 use Rattle.xds_resource.specs.declared.types.TypeName.{TypeName}
 use Rattle.xds_resource.specs.Types.{row}
 use Rattle.xds_resource.specs.Resources.{NamedBody, IsCanonical, value_of, resource_of, from_value}
 use Rattle.xds_resource.specs.Writes.{StampedWrite, text_cmp, version_of}
 use Rattle.xds_resource.specs.PerType.{PerType, at}
 use Rattle.xds_resource.proofs.NameMaps.{has_text, get-insert, get-tabulate, bytes_eq_same, bytes_eq_tells}
-use Rattle.xds_resource.proofs.MadeMaps.{EachFound, each_found, holds_first, holds_second, less_is_no_tie}
+use Rattle.xds_resource.proofs.MadeMaps.{EachFound, each_found, less_is_no_tie}
+use Rattle.xds_resource.proofs.BoolsAndLists.{holds_first, holds_second}
 use Rattle.xds_interest.specs.Interests.{Selection, covers}
 use Rattle.xds_catalogue.specs.Holdings.{Holdings, Entries}
 use Rattle.xds_catalogue.specs.Content.{is_shown}
@@ -110,10 +112,6 @@ pub record Blamed (all : List TypedWrite) (test : Test) (t : TypeName) (m : Entr
   pub puts : write.body ≡ Some body
   pub refused : test (row t).url name (value_of body) ≡ false
 
-right_true : (a b : Bool) → b ≡ true → (a || b) ≡ true
-right_true true b is = refl
-right_true false b is = is
-
 later_is_other : (ns : List (List ℕ)) (n q : List ℕ) (same : Bool) → bytes_eq n q ≡ same → has_text ns n ≡ false → has_text ns q ≡ true → bytes_eq n q ≡ false
 later_is_other ns n q true is absent has = absurd (never_both (has_text ns q) has (sym (ap (has_text ns) (bytes_eq_tells n q is)) ∙ absent))
 later_is_other ns n q false is absent has = is
@@ -137,10 +135,10 @@ first_blamed all test t m removed (r ∷ rs) (n ∷ ns) before lists fresh stays
       | inl refused ↦ record { name = n; write = of.write; body = of.body; among = here; found = of.found; known = of.known; puts = of.puts; refused = refused }
       | inr none ↦
           (let rest = first_blamed all test t m removed rs ns (and_stated t before r) lists.2
-          (λ q has. still_new all t before m r n q ns of lists.1 has (fresh q (right_true (bytes_eq q n) (has_text ns q) has)))
-          (λ q has. stays q (right_true (bytes_eq q n) (has_text ns q) has))
+          (λ q has. still_new all t before m r n q ns of lists.1 has (fresh q (or_right (bytes_eq q n) (has_text ns q) has)))
+          (λ q has. stays q (or_right (bytes_eq q n) (has_text ns q) has))
           (ap (λ f. is_some (option_or f (first_fault t test removed (and_stated t before r) rs))) (sym none) ∙ at_fault) in
-          record { name = rest.name; write = rest.write; body = rest.body; among = right_true (bytes_eq rest.name n) (has_text ns rest.name) rest.among; found = rest.found; known = rest.known; puts = rest.puts; refused = rest.refused })
+          record { name = rest.name; write = rest.write; body = rest.body; among = or_right (bytes_eq rest.name n) (has_text ns rest.name) rest.among; found = rest.found; known = rest.known; puts = rest.puts; refused = rest.refused })
     ]
 
 -- ---- the names that a response lists
@@ -156,7 +154,7 @@ listed_none : (all : List TypedWrite) (t : TypeName) (m : Entries) (P : List ℕ
 listed_none all t m P = record { names = []; lists = tt; within = λ q is. is; holds = λ q is. absurd cc }
 
 listed_skip : (all : List TypedWrite) (t : TypeName) (m : Entries) (P : List ℕ → Type 0) (k : List ℕ) (keys : List (List ℕ)) (rs : List StatedResource) → Listed all t m P keys rs → Listed all t m P (k ∷ keys) rs
-listed_skip all t m P k keys rs is = record { names = is.names; lists = is.lists; within = λ q has. right_true (bytes_eq q k) (has_text keys q) (is.within q has); holds = is.holds }
+listed_skip all t m P k keys rs is = record { names = is.names; lists = is.lists; within = λ q has. or_right (bytes_eq q k) (has_text keys q) (is.within q has); holds = is.holds }
 
 absent_in : (ns keys : List (List ℕ)) (n : List ℕ) (b : Bool) → has_text ns n ≡ b → (has_text ns n ≡ true → has_text keys n ≡ true) → has_text keys n ≡ false → has_text ns n ≡ false
 absent_in ns keys n true is within absent = absurd (never_both (has_text keys n) (within is) absent)
@@ -247,7 +245,7 @@ sotw_listed all t m s p P (e ∷ es) says known sorted found =
 
 -- ---- what an offer states is present
 
-whole_at : (p : Option (List ℕ)) (version : List ℕ) → option_map Stated p ≡ Some (Stated version) → p ≡ Some version
+pub whole_at : (p : Option (List ℕ)) (version : List ℕ) → option_map Stated p ≡ Some (Stated version) → p ≡ Some version
 whole_at None version is = absurd cc
 whole_at (Some v) version is = ap (option_and_then stated_version) is
 

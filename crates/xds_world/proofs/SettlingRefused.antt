@@ -5,6 +5,7 @@ use Rattle.std.specs.List.{list_any}
 use Rattle.std.specs.FinMap as finmap
 use Rattle.xds_resource.specs.declared.types.TypeName.{TypeName}
 use Rattle.xds_resource.specs.PerType.{at}
+use Rattle.xds_resource.proofs.BoolsAndLists.{both_false}
 use Rattle.xds_catalogue.specs.Holdings.{Entries}
 use Rattle.xds_ledger.specs.declared.variant.VariantName.{VariantName}
 use Rattle.xds_ledger.specs.Ledgers.{is_due, is_refused}
@@ -16,7 +17,7 @@ use Rattle.xds_world.specs.Happenings.{Happening}
 use Rattle.xds_world.specs.Worlds.{Site, Link, World, happens, after, world}
 use Rattle.xds_world.specs.Claims.{PutResources, asks_for, is_quiet, is_settled}
 use Rattle.xds_world.specs.Settling.{link_in, gave_nothing, would_repeat, is_held_back, Done, IsAtEnd, UnsettledHasRefused}
-use Rattle.xds_world.proofs.Settled.{both_false, none_down}
+use Rattle.xds_world.proofs.Settled.{none_down}
 use Rattle.xds_world.proofs.SettlingWalks.{then_there}
 use Rattle.xds_world.proofs.SettlingSessions.{offer_now}
 use Rattle.xds_world.proofs.Queues.{Speaks}

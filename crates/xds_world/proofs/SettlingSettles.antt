@@ -11,6 +11,7 @@ use Rattle.xds_resource.specs.PerType.{at}
 use Rattle.xds_resource.specs.Resources.{value_of}
 use Rattle.xds_resource.specs.Best.{best}
 use Rattle.xds_resource.specs.Writes.{StampedWrite, version_of}
+use Rattle.xds_resource.proofs.BoolsAndLists.{both_false}
 use Rattle.xds_interest.specs.Interests.{Selection}
 use Rattle.xds_interest.specs.Asked.{Asked}
 use Rattle.xds_catalogue.specs.Holdings.{Entries}
@@ -46,7 +47,7 @@ use Rattle.xds_world.proofs.Queues as queues
 use Rattle.xds_world.proofs.Queues.{lane_down, Speaks}
 use Rattle.xds_world.proofs.Starting.{owes_started}
 use Rattle.xds_world.proofs.SotwLinks as links
-use Rattle.xds_world.proofs.Settled.{IsUnique, AllStamped, one_write, both_false, none_down}
+use Rattle.xds_world.proofs.Settled.{IsUnique, AllStamped, one_write, none_down}
 use Rattle.xds_world.proofs.Delivering.{AllKnown, shown_in}
 use Rattle.xds_world.proofs.ByKind.{LinkedAs}
 use Rattle.xds_world.proofs.EveryEvent.{fine_start}
@@ -61,6 +62,7 @@ use Rattle.xds_world.proofs.SettlingEnds.{link_settled, done_if_settled}
 use Rattle.xds_world.proofs.SettlingFaults.{IsBlamed, stated_present, present_version}
 use Rattle.xds_world.proofs.RestPolls.{polls_start}
 use Rattle.xds_world.proofs.SettlingFair.{IsFairWorld, fair_step, fair_start}
+use Rattle.xds_world.proofs.RestAnswers.{TakesShown}
 
 -- ---- worlds as they come
 
@@ -149,11 +151,7 @@ asked_as Rest all c l x t o linked refused = absurd linked
 
 -- ---- what is refused isn't what the client is to show
 
--- that of these entries the test takes all that an interest covers
-abbrev TakesHeld : Test → TypeName → Entries → Selection → Type 0
-TakesHeld test t m s = (name : List ℕ) (h : Holding) → shown_in s m name ≡ Some h → test (row t).url name (value_of h.body) ≡ true
-
-not_blamed : (v : VariantName) (all : List TypedWrite) (test : Test) (t : TypeName) (s : Session) (m : Entries) → IsUnique all → AllStamped all → AllKnown all t m → TakesHeld test t m s.asked.interest → IsBlamed all test t (offer_now v t s m) → ⊥
+not_blamed : (v : VariantName) (all : List TypedWrite) (test : Test) (t : TypeName) (s : Session) (m : Entries) → IsUnique all → AllStamped all → AllKnown all t m → TakesShown test t m s.asked.interest → IsBlamed all test t (offer_now v t s m) → ⊥
 not_blamed v all test t s m unique stamped known takes blamed =
     by_found (finmap.get m blamed.name) refl (stated_present v t s.asked.interest m s.account.beliefs blamed.name blamed.version blamed.states)
   where
@@ -189,7 +187,7 @@ abbrev interest_at : (y : World) (c : ℕ) → TypeName → Spot y c → Selecti
 interest_at y c t z = interest t z.peer.client.cluster (shelf z.peer.client t).wants
 
 -- where a poll of a quiet client sends nothing, it is settled
-end_settled : (test : Test) (y : World) (c : ℕ) (t : TypeName) (z : Spot y c) → IsSound test y → TakesHeld test t (held_at y c t z) (interest_at y c t z) → is_quiet t z.link ≡ true → sessions.sending (spoken z.peer.kind) t (session_at y c t z) (held_at y c t z) ≡ None
+end_settled : (test : Test) (y : World) (c : ℕ) (t : TypeName) (z : Spot y c) → IsSound test y → TakesShown test t (held_at y c t z) (interest_at y c t z) → is_quiet t z.link ≡ true → sessions.sending (spoken z.peer.kind) t (session_at y c t z) (held_at y c t z) ≡ None
     → is_settled y c t ≡ true
 end_settled test y c t z sound takes quiet sends =
     let all : List TypedWrite = sound.1 in
@@ -208,7 +206,7 @@ end_settled test y c t z sound takes quiet sends =
           (let is = refused_is (offer_now v t a m) a.account.refused refused in
           let fair = sound.3 c z.link z.stream (link_at y c z) (ap (option_and_then (λ (s : Site). finmap.get s.core.streams z.link.stream)) z.there ∙ z.opened) z.peer.client.cluster t in
           let wanted : a.asked.interest ≡ interest_at y c t z = asked_as z.peer.kind all z.peer.client z.link own t (offer_now v t a m) linked is in
-          absurd (not_blamed v all test t a m sure.stamped.unique sure.ranged.stamps (sites_known y sound.0 all sure.kept sure.stamped sure.ranged z.link.replica z.site t z.there) (subst (TakesHeld test t m) (sym wanted) takes) (fair.refused (offer_now v t a m) is)))
+          absurd (not_blamed v all test t a m sure.stamped.unique sure.ranged.stamps (sites_known y sound.0 all sure.kept sure.stamped sure.ranged z.link.replica z.site t z.there) (subst (TakesShown test t m) (sym wanted) takes) (fair.refused (offer_now v t a m) is)))
     ]
 
 -- nothing is done once a poll gave nothing
@@ -216,7 +214,7 @@ ended_settled : (test : Test) (c : ℕ) (t : TypeName) (y : World) (hs : List Ha
 ended_settled test c t y [] settled done = settled
 ended_settled test c t y (h ∷ hs) settled done = let not_more : true ≡ false = done.0 in absurd cc
 
-settled_after : (test : Test) (c : ℕ) (t : TypeName) (hs : List Happening) (w : World) (s : Spot w c) → IsSound test w → TakesHeld test t (held_at w c t s) (interest_at w c t s) → Done (IsAtEnd c t) test c t false w hs → is_settled (after test w hs) c t ≡ true
+settled_after : (test : Test) (c : ℕ) (t : TypeName) (hs : List Happening) (w : World) (s : Spot w c) → IsSound test w → TakesShown test t (held_at w c t s) (interest_at w c t s) → Done (IsAtEnd c t) test c t false w hs → is_settled (after test w hs) c t ≡ true
 settled_after test c t [] w s sound takes (inl gave) = absurd cc
 settled_after test c t [] w s sound takes (inr none) = done_if_settled w c t s.link (is_settled w c t) refl (link_at w c s) none
 settled_after test c t (h ∷ hs) w s sound takes done =
@@ -226,8 +224,8 @@ settled_after test c t (h ∷ hs) w s sound takes done =
     let m = next_moved test w y sound.1 c t h s three there.1 sound.2.fine in
     let next_sound = sound_step test w y h there.1 (puts_nothing c t s.link h three) sound in
     let left : after test (option_map_or (λ x. x) (happens test w h) w) hs ≡ after test y hs = ap (λ o. after test (option_map_or (λ x. x) o w) hs) there.1 in
-    let still : TakesHeld test t (held_at y c t m.spot) (interest_at y c t m.spot) =
-    subst (λ e. TakesHeld test t e (interest_at y c t m.spot)) (sym m.held) (subst (TakesHeld test t (held_at w c t s)) (λ i. interest t (sym m.cluster i) (sym m.wants i)) takes) in
+    let still : TakesShown test t (held_at y c t m.spot) (interest_at y c t m.spot) =
+    subst (λ e. TakesShown test t e (interest_at y c t m.spot)) (sym m.held) (subst (TakesShown test t (held_at w c t s)) (λ i. interest t (sym m.cluster i) (sym m.wants i)) takes) in
     let later = λ (gave : gave_nothing t h (link_in y c) ≡ false). settled_after test c t hs y m.spot next_sound still (subst (λ b. Done (IsAtEnd c t) test c t b y hs) gave there.2) in
     ap (λ x. is_settled x c t) left
     ∙ elim m.how [

@@ -5,6 +5,7 @@ use Rattle.std.specs.Option.{option_and_then, option_map_or}
 use Rattle.std.specs.List.{list_any, cons_option}
 use Rattle.std.specs.FinMap as finmap
 use Rattle.std.proofs.lemmas.List.Folds.{list_any-append}
+use Rattle.std.proofs.Math.Bool.{or-true}
 use Rattle.xds_resource.specs.declared.types.TypeName.{TypeName}
 use Rattle.xds_resource.specs.declared.refusal.Refusal.{Refusal}
 use Rattle.xds_resource.specs.declared.refusal.Refusal.TheVariants.{BadMessage, NonceSpent}
@@ -12,6 +13,7 @@ use Rattle.xds_resource.specs.Types.{row, type_of_url, is_same_type}
 use Rattle.xds_resource.specs.Stamps.{max_counter}
 use Rattle.xds_resource.specs.PerType.{PerType, at, with_at}
 use Rattle.xds_resource.proofs.TypesApart.{same_type, is_same_type-same, at-with_at, at-with_at_other, at-each}
+use Rattle.xds_resource.proofs.Refusing.{unless_once}
 use Rattle.xds_message.specs.Messages.{Request}
 use Rattle.xds_message.specs.DeltaMessages.{DeltaRequest}
 use Rattle.xds_message.specs.declared.draft.Draft.{Draft}
@@ -29,7 +31,6 @@ use Rattle.xds_core.specs.Streams as streams
 use Rattle.xds_core.specs.Streams.{Stream, Message, url_of, variant_of, cluster_of, is_foreign, sessions_for, session_after, answered_by, answered, requested, to_send, response_of, responding, sent, polled_first, looked_at}
 use Rattle.xds_core.specs.Events.{Event, Reply}
 use Rattle.xds_core.specs.Steps.{Core, step, stream_step}
-use Rattle.xds_core.proofs.StepLaws.{unless_once}
 use Rattle.xds_cache.specs.Shelves.{Shelf, texts}
 use Rattle.xds_cache.specs.Faults.{Test}
 use Rattle.xds_cache.specs.Clients.{Client, shelf, with_shelf}
@@ -60,7 +61,6 @@ use Rattle.xds_world.proofs.SettlingSessions.{HasAnswer, delta_answers, sotw_ans
 use Rattle.xds_world.proofs.SettlingFaults.{fault_at}
 use Rattle.xds_world.proofs.EveryEvent.{get_put}
 use Rattle.xds_message.proofs.StampedWriteLemmas.{type_of_url-url}
-use Rattle.xds_ledger.proofs.Stored.{or_true}
 
 -- ---- where a client is
 
@@ -262,7 +262,7 @@ none_more t ds o none = ap (λ x. among t (ds ++ under_way x)) none ∙ ap (amon
 pub one_more : (t : TypeName) (ds : List Draft) (o : Option Draft) (d : Draft) → o ≡ Some d → kind_of d ≡ t → among t (ds ++ under_way o) ≡ true
 one_more t ds o d gave kind =
     ap (λ x. among t (ds ++ under_way x)) gave ∙ list_any-append (λ e. is_same_type (kind_of e) t) ds (d ∷ [])
-    ∙ ap (λ b. among t ds || (b || false)) (ap (λ s. is_same_type s t) kind ∙ is_same_type-same t) ∙ or_true (among t ds)
+    ∙ ap (λ b. among t ds || (b || false)) (ap (λ s. is_same_type s t) kind ∙ is_same_type-same t) ∙ or-true (among t ds)
 
 -- at most one of a type is
 pub one_lane : (k : ClientKind) (all : List TypedWrite) (c : Client) (l : Link) (x : Stream) (t : TypeName) → LinkedAs k all c l x → (o : Option Draft) × (lane_down t l.down ≡ under_way o)

@@ -10,9 +10,9 @@ use Rattle.xds_resource.specs.Types.{row}
 use Rattle.xds_resource.specs.Writes.{StampedWrite, version_of, text_cmp}
 use Rattle.xds_interest.specs.Interests.{Selection, reaches}
 use Rattle.xds_interest.specs.Asked.{Asked, sotw_asked}
-use Rattle.xds_interest.specs.Touched.{exactly_one}
 use Rattle.xds_interest.specs.Touches.{touches, sotw_touch}
 use Rattle.xds_interest.proofs.AskedLaws.{sotw_touch_is_a_set}
+use Rattle.xds_interest.proofs.Choices.{exactly_one_of_same}
 use Rattle.xds_message.specs.Messages.{Request}
 use Rattle.xds_message.specs.Drafts.{Drafted, message_of}
 use Rattle.xds_ledger.specs.declared.variant.VariantName.TheVariants.{StateOfTheWorld}
@@ -102,12 +102,8 @@ asks_if_sent cluster t s f sent has (inr never) = absurd (none_sent s.account.se
 
 -- ---- an answer: it lists what was wanted before, too
 
-pub same_twice : (b : Bool) → exactly_one b b ≡ false
-same_twice true = refl
-same_twice false = refl
-
 pub untouched_again : (s : Selection) (q : List ℕ) → touches (sotw_touch s s) q ≡ false
-untouched_again s q = sotw_touch_is_a_set s s q ∙ (λ i. same_twice s.star i || same_twice (set.contains s.names q) i)
+untouched_again s q = sotw_touch_is_a_set s s q ∙ (λ i. exactly_one_of_same s.star i || exactly_one_of_same (set.contains s.names q) i)
 
 pub record Answered (cluster : List ℕ) (t : TypeName) (w : Wants) (s after : Session) (sent : Sent) (rejects : Bool) : Type 0 where
   pub asked : after.asked ≡ naming cluster t w

@@ -1,5 +1,6 @@
 -- What is under way on a link of the state of the world, of one type, and what keeps all lanes of such a link.
 use Rattle.std.proofs.Common.{◌≡◌, ◌≢◌, ◌⊎◌, inl, inr, ℕ, zero, suc, ◌+◌, ◌≤◌, List, [], ◌∷◌, ◌++◌, Bool, true, false, Option, Some, None, Ok, Err, refl, sym, ap, subst, ◌∙◌, append-nil, arith}
+use Rattle.std.proofs.Math.Numerals.{suc-eq-add-one}
 use Rattle.std.specs.Prelude.{◌==◌, bytes_eq, if◌then◌else◌, option_map, length, ⊤}
 use Rattle.std.specs.Option.{option_map_or, option_and_then}
 use Rattle.std.specs.List.{filter_map, cons_option}
@@ -11,6 +12,7 @@ use Rattle.xds_resource.specs.Stamps.{max_counter}
 use Rattle.xds_resource.specs.Writes.{text_cmp}
 use Rattle.xds_resource.specs.PerType.{PerType, at, with_at}
 use Rattle.xds_resource.proofs.TypesApart.{same_type, is_same_type-same, at-with_at, at-with_at_other, at-each}
+use Rattle.xds_resource.proofs.Refusing.{unless_once}
 use Rattle.xds_message.specs.Messages.{Identity, Request}
 use Rattle.xds_message.specs.declared.draft.Draft.{Draft}
 use Rattle.xds_message.specs.declared.draft.Draft.TheVariants as drafts
@@ -27,7 +29,6 @@ use Rattle.xds_sessions.specs.SotwPolls.{take, response}
 use Rattle.xds_core.specs.Stores.{Store}
 use Rattle.xds_core.specs.Streams as streams
 use Rattle.xds_core.specs.Streams.{Stream, Message, opening, cluster_of, is_foreign, sessions_for, answered_by, answered, requested, response_of}
-use Rattle.xds_core.proofs.StepLaws.{unless_once}
 use Rattle.xds_cache.specs.Shelves.{Wants, Shelf, texts, is_wanted, wants_some, wanting, connected}
 use Rattle.xds_cache.specs.Faults.{Test}
 use Rattle.xds_cache.specs.Clients.{Client, shelf, with_shelf, node, is_sent, shelf_after, changed, linked, unlinked, addressing, addressed_or, if_asked}
@@ -41,7 +42,7 @@ use Rattle.xds_world.specs.Knows.{TypedWrite}
 use Rattle.xds_world.specs.Claims.{asks_for}
 use Rattle.xds_world.proofs.Replicas.{some_is}
 use Rattle.xds_world.proofs.Queues.{cons-append, lane_down, lane_down-append, nonces_differ, Speaks, started}
-use Rattle.xds_world.proofs.LinkSteps.{sending_facts, taken_by, own_sessions, undecided_session, due_as, IsSent, one_more, room_is}
+use Rattle.xds_world.proofs.LinkSteps.{sending_facts, taken_by, own_sessions, undecided_session, due_as, IsSent, room_is}
 use Rattle.xds_world.proofs.LinkTakes.{not_empty, own_first, received_ok, answered_ok, nothing_wanted, connected_shelf, lost_shelf, addressed_to}
 use Rattle.xds_world.proofs.Firsts.{firsts, firsts_by, one_first, once, first_lane}
 use Rattle.xds_world.proofs.Delivering.{AllKnown}
@@ -240,9 +241,9 @@ linked_polled all replica store c l x y d known is linked =
     let s : Session = at x.sessions is.kind in
     let same : d ≡ drafts.Sotw (drafted replica store is.kind s is.offer (suc x.count)) =
     some_is d (drafts.Sotw (drafted replica store is.kind s is.offer (x.count + 1))) (is.sends ∙ ap (option_map (response_of replica store x.sessions is.kind is.offer (x.count + 1))) due.0)
-    ∙ ap (λ n. drafts.Sotw (drafted replica store is.kind s is.offer n)) (one_more x.count) in
+    ∙ ap (λ n. drafts.Sotw (drafted replica store is.kind s is.offer n)) (sym (suc-eq-add-one x.count)) in
     let left : y ≡ record { variant = x.variant; count = suc x.count; sessions = with_at x.sessions is.kind (send s is.offer (suc x.count)) } =
-    is.left ∙ (λ i. record { variant = x.variant; count = one_more x.count i; sessions = with_at x.sessions is.kind (send s is.offer (one_more x.count i)) }) in
+    is.left ∙ (λ i. record { variant = x.variant; count = sym (suc-eq-add-one x.count) i; sessions = with_at x.sessions is.kind (send s is.offer (sym (suc-eq-add-one x.count) i)) }) in
     subst (λ e. Linked all c (record l { down = l.down ++ e ∷ [] }) y) (sym same)
     (subst (Linked all c (record l { down = l.down ++ drafts.Sotw (drafted replica store is.kind s is.offer (suc x.count)) ∷ [] })) (sym left)
     (record { variant = inr due.0; counted = room; sotws = linked.sotws; lanes = λ t. poll_lane c.cluster all replica store x is.kind t is.offer l (shelf c t) (known is.kind) room due.1 (same_type is.kind t) (linked.lanes t) }))

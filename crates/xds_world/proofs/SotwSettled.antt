@@ -10,6 +10,7 @@ use Rattle.xds_resource.specs.Types.{row, is_same_type}
 use Rattle.xds_resource.specs.PerType.{at}
 use Rattle.xds_resource.specs.Writes.{StampedWrite, version_of}
 use Rattle.xds_resource.proofs.NameMaps.{bytes_eq_tells}
+use Rattle.xds_resource.proofs.BoolsAndLists.{both_false}
 use Rattle.xds_interest.specs.Interests.{Selection, covers}
 use Rattle.xds_interest.specs.Asked.{Asked}
 use Rattle.xds_catalogue.specs.Holdings.{Entries}
@@ -36,7 +37,7 @@ use Rattle.xds_world.specs.Worlds.{Link}
 use Rattle.xds_world.specs.Knows.{TypedWrite}
 use Rattle.xds_world.specs.Claims.{holding_of, shown_of, asks_for, is_quiet}
 use Rattle.xds_world.proofs.Replicas.{some_is, if_both}
-use Rattle.xds_world.proofs.Settled.{IsUnique, AllStamped, one_write, none_shown, both_false, none_down, owed_by}
+use Rattle.xds_world.proofs.Settled.{IsUnique, AllStamped, one_write, none_shown, none_down, owed_by}
 use Rattle.xds_world.proofs.LinkTakes.{nothing_wanted}
 use Rattle.xds_world.proofs.Delivering.{AllKnown, shown_in}
 use Rattle.xds_world.proofs.SotwFolding.{folded}

@@ -7,6 +7,7 @@ use Rattle.xds_resource.specs.declared.refusal.Refusal.{Refusal}
 use Rattle.xds_resource.specs.declared.refusal.Refusal.TheVariants.{CounterSpent, NoStream}
 use Rattle.xds_resource.specs.declared.types.TypeName.{TypeName}
 use Rattle.xds_resource.specs.Stamps.{max_counter}
+use Rattle.xds_resource.proofs.BoolsAndLists.{option_map-twice}
 use Rattle.xds_message.specs.declared.draft.Draft.{Draft}
 use Rattle.xds_core.specs.Stores.{Batch, if_done, all_entries}
 use Rattle.xds_core.specs.Streams.{Message, Stream, opening, looked_at, polled_first}
@@ -179,8 +180,6 @@ poll_done test w w1 w2 c r n which o b led gave responded =
     (ap (option_and_then (λ l. Some (record at.0 { link = Some (record l { down = l.down ++ under_way o }) }))) at.3)
     gave responded (poll_is test w c r n at which ∙ ap (option_and_then (polled c at.0 at.1)) gave)
 
--- ---- lose
-
 -- ---- connect
 
 abbrev pub is_idle : Option Peer → Bool
@@ -203,13 +202,9 @@ connect_done test w w1 w2 c r n b idle gave connected =
 
 -- ---- down
 
-map-twice : {X Y Z : Type 0} (f : X → Y) (g : Y → Z) (o : Option X) → option_map (λ x. g (f x)) o ≡ option_map g (option_map f o)
-map-twice f g None = refl
-map-twice f g (Some x) = refl
-
 down_either : (test : Test) (w : World) (c : ℕ) (p : Peer) (l : Link) (ds : List Draft) → down_taken test w c p l ds ≡ option_map (with_peer w c) (link_down test p l ds)
 down_either test w c p l [] = refl
-down_either test w c p l (d ∷ rest) = map-twice (taken_down p l rest) (with_peer w c) (received test p d)
+down_either test w c p l (d ∷ rest) = option_map-twice (taken_down p l rest) (with_peer w c) (received test p d)
 
 down_of : (test : Test) (w : World) (c : ℕ) (p : Peer) (o : Option Link) → option_and_then (λ l. down_taken test w c p l l.down) o ≡ option_map (with_peer w c) (option_and_then (λ l. link_down test p l l.down) o)
 down_of test w c p None = refl
@@ -230,7 +225,7 @@ down_done test w w2 c b is = happened_same w w2 b (peer_event w c (peer_down tes
 change_is : (w : World) (c : ℕ) (t : TypeName) (wish : happenings.Wish) (o : Option Peer)
     → option_and_then (λ p. option_map (λ q. with_peer w c (changed p q)) (wish_taken p t wish)) o ≡ option_and_then (λ p. option_map (with_peer w c) (peer_changed t wish p)) o
 change_is w c t wish None = refl
-change_is w c t wish (Some p) = map-twice (changed p) (with_peer w c) (wish_taken p t wish)
+change_is w c t wish (Some p) = option_map-twice (changed p) (with_peer w c) (wish_taken p t wish)
 
 pub change_done : (test : Test) (w w2 : World) (c : ℕ) (t : TypeName) (wish : happenings.Wish) (b : Bool) → Happened w b w2 (peer_event w c (peer_changed t wish)) → Happened w b w2 (happens test w (happenings.Change c t wish))
 change_done test w w2 c t wish b is = happened_same w w2 b (peer_event w c (peer_changed t wish)) (happens test w (happenings.Change c t wish)) (change_is w c t wish (finmap.get w.peers c)) is

@@ -1,6 +1,7 @@
 use Rattle.std.proofs.Common.{length, arith, sym, ap, ◌∙◌}
+use Rattle.std.proofs.lemmas.List.{nil_from_length}
 use Rattle.xds_catalogue.specs.Tables.{with_counts}
-use Rattle.xds_catalogue.proofs.Batches.{joins_start, room_left, joins_more, joins_done, all_back, none_left}
+use Rattle.xds_catalogue.proofs.Batches.{joins_start, room_left, joins_more, joins_done, all_back}
 use Rattle.xds_catalogue.proofs.batch.put_all.Goals as goal
 
 pub loop-write-init : goal.loop-write-init
@@ -37,7 +38,7 @@ returns-in-Err-clause-err g c =
 
 pub returns-clause-joins : goal.returns-clause-joins
 returns-clause-joins g c =
-    let so_far = rw (none_left _ (sym c.loop-write.invariant.counted ∙ c.in-None.ensures.steps.0)) at c.loop-write.invariant.joins in
+    let so_far = rw (nil_from_length _ (sym c.loop-write.invariant.counted ∙ c.in-None.ensures.steps.0)) at c.loop-write.invariant.joins in
     joins_done c.args.tables.now c.loop-write.tables c.loop-write.displaced.items c.args.writes.items so_far
 
 pub returns-clause-back : goal.returns-clause-back

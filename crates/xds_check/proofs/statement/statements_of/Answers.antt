@@ -1,14 +1,14 @@
 use Rattle.std.proofs.Common.{[], ◌∷◌, ◌++◌, length, map, refl, sym, ap, ◌∙◌, subst, append_assoc, arith}
 use Rattle.std.specs.List.{AllZip}
 use Rattle.std.specs.Vec.Iter.{into_iter_items}
-use Rattle.std.proofs.lemmas.List.{append-nil}
+use Rattle.std.proofs.lemmas.List.{append-nil, nil_from_length}
 use Rattle.std.proofs.lemmas.List.Elements.{All-push, All-nil}
 use Rattle.std.proofs.lemmas.Slice.Zip.{all_zipped_more}
 use Rattle.serde_json.specs.View.{view}
 use Rattle.xds_ledger.specs.declared.variant.VariantName.TheVariants.{StateOfTheWorld}
 use Rattle.xds_check.specs.Answers.{IsStatement}
 use Rattle.xds_check.specs.Texts.{IsStated}
-use Rattle.xds_json.proofs.Lists.{none_left, AllZip-middle}
+use Rattle.xds_json.proofs.Lists.{AllZip-middle}
 use Rattle.xds_check.proofs.Finding.{Finds-refused}
 use Rattle.xds_check.proofs.statement.statements_of.Goals as goal
 
@@ -41,7 +41,7 @@ returns-in_err-bare_statement-clause-found c =
 pub returns-clause-found : goal.returns-clause-found
 returns-clause-found c =
     let before = c.loop-value.invariant in
-    let none = none_left _ (sym before.3 ∙ c.in-None.ensures.steps.0) in
+    let none = nil_from_length _ (sym before.3 ∙ c.in-None.ensures.steps.0) in
     let all = before.1 ∙ ap (λ vs. before.0 ++ map view vs) none ∙ append-nil before.0 in
     subst (λ ds. AllZip (IsStated c.args.kind) ds c.loop-value.statements.items) (sym all) before.2
 

@@ -1,10 +1,10 @@
 use Rattle.std.proofs.Common.{◌≡◌, ◌⊎◌, ap, map}
 use Rattle.std.specs.Prelude.{IfErr}
 use Rattle.xds_resource.specs.declared.refusal.Refusal.TheVariants.{OutOfMemory, FrameTooLong}
+use Rattle.xds_resource.proofs.Refusing.{err_is}
 use Rattle.xds_client.specs.declared.subscription.StreamVariant.TheVariants.{Sotw, Delta}
 use Rattle.xds_client.specs.Subscribing.{OpeningFits, sotw_text, delta_text}
 use Rattle.xds_client.proofs.Askings.{unopened}
-use Rattle.xds_client.proofs.Serving.{err_is}
 use Rattle.xds_client.proofs.opening.open.Goals as goal
 
 pub returns-in_err-frames-in-Sotw-clause-refused : goal.returns-in_err-frames-in-Sotw-clause-refused

@@ -1,11 +1,11 @@
 use Rattle.std.proofs.Common.{◌≡◌, ◌⊎◌, ◌<◌, ◌∙◌, List, length, get_or, map, subst}
 use Rattle.std.specs.Prelude.{All, IfErr}
 use Rattle.xds_resource.specs.declared.refusal.Refusal.TheVariants.{OutOfMemory, FrameTooLong}
+use Rattle.xds_resource.proofs.Refusing.{err_is}
 use Rattle.xds_message.specs.Messages.{Request}
 use Rattle.xds_client.specs.declared.subscription.StreamVariant.TheVariants.{Sotw}
 use Rattle.xds_client.specs.Subscribing.{Fits, sotw_text}
 use Rattle.xds_client.proofs.Askings.{one_asked, one_untellable}
-use Rattle.xds_client.proofs.Serving.{err_is}
 use Rattle.xds_client.proofs.opening.sotw_frames.Goals as goal
 
 pub returns-in_err-push_asking-clause-refused : goal.returns-in_err-push_asking-clause-refused

@@ -1,8 +1,9 @@
 use Rattle.std.proofs.Common.{[], refl, ◌∙◌}
+use Rattle.xds_resource.proofs.Refusing.{err_is}
 use Rattle.xds_frames.specs.Devices.{seen}
 use Rattle.xds_client.specs.Running.{Serves}
 use Rattle.xds_client.specs.Turning.{client_of, devices, variant_of}
-use Rattle.xds_client.proofs.Serving.{err_is, goes-answered, goes-off, goes-read, goes-start}
+use Rattle.xds_client.proofs.Serving.{goes-answered, goes-off, goes-read, goes-start}
 use Rattle.xds_client.proofs.running.serve.Goals as goal
 
 pub loop-left-init : goal.loop-left-init

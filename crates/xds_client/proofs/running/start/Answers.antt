@@ -1,9 +1,9 @@
 use Rattle.xds_frames.specs.Devices.{seen}
 use Rattle.xds_client.specs.Running.{Starts}
 use Rattle.xds_client.specs.Turning.{client_of, devices, variant_of}
-use Rattle.xds_client.proofs.Serving.{err_is}
 use Rattle.xds_client.proofs.Turns.{starts_cut, starts_served}
 use Rattle.xds_client.proofs.running.start.Goals as goal
+use Rattle.xds_resource.proofs.Refusing.{err_is}
 
 pub returns-in_err-write_whole : goal.returns-in_err-write_whole
 returns-in_err-write_whole g c =

@@ -1,7 +1,7 @@
 use Rattle.std.proofs.Common.{refl}
+use Rattle.xds_resource.proofs.Refusing.{err_is}
 use Rattle.xds_frames.specs.Devices.{seen}
 use Rattle.xds_client.specs.Turning.{Turns, client_of, devices, variant_of}
-use Rattle.xds_client.proofs.Serving.{err_is}
 use Rattle.xds_client.proofs.Turns.{none_replied, replied, turn_cut, turn_reads, turn_takes, turn_unanswered, turn_unprinted, turn_unwritten}
 use Rattle.xds_client.proofs.running.turn.Goals as goal
 

@@ -1,5 +1,5 @@
 use Rattle.std.proofs.Common.{◌∷◌, [], ◌++◌, sym, ◌∙◌}
-use Rattle.xds_core.proofs.Copies.{map-take-more}
+use Rattle.xds_message.proofs.BatchLemmas.{map-take-more}
 use Rattle.xds_core.proofs.catalogues.writes_of.Goals as goal
 
 pub loop-write-preserved : goal.loop-write-preserved

@@ -1,9 +1,10 @@
 use Rattle.std.proofs.Common.{◌++◌, length, map, string_bytes, rules, sym, ap, ◌∙◌, arith, append-nil}
+use Rattle.std.proofs.lemmas.List.{nil_from_length}
 use Rattle.std.specs.Option.{option_map}
 use Rattle.std.specs.Vec.Iter.{into_iter_items}
 use Rattle.serde_json.specs.Data.{string}
 use Rattle.serde_json.specs.View.{view}
-use Rattle.xds_json.proofs.Lists.{as_str_is, map-moved, map-twice, none_left, text_in_middle}
+use Rattle.xds_json.proofs.Lists.{as_str_is, map-moved, map-twice, text_in_middle}
 use Rattle.xds_json.proofs.fields.texts_in.Goals as goal
 
 -- the item that comes next stands behind the texts that moved so far
@@ -35,7 +36,7 @@ loop-item-preserved c =
 pub returns : goal.returns
 returns c =
     let before = c.loop-item.invariant in
-    let none = none_left _ (sym before.1 ∙ c.in-None.ensures.steps.0) in
+    let none = nil_from_length _ (sym before.1 ∙ c.in-None.ensures.steps.0) in
     sym (
     sym (map-twice string_bytes string c.loop-item.texts.items) ∙ sym (append-nil (map (λ t. string (string_bytes t)) c.loop-item.texts.items))
     ∙ ap (λ vs. map (λ t. string (string_bytes t)) c.loop-item.texts.items ++ map view vs) (sym none) ∙ before.0

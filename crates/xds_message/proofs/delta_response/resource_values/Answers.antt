@@ -1,9 +1,9 @@
 use Rattle.std.proofs.Common.{length, refl, sym, ap, ◌∙◌, arith}
-use Rattle.std.proofs.lemmas.List.{append-nil}
+use Rattle.std.proofs.lemmas.List.{append-nil, nil_from_length}
 use Rattle.serde_json.specs.View.{view}
 use Rattle.xds_message.specs.DeltaWritten.{resource_object}
 use Rattle.xds_message.specs.Responses.{resource_of}
-use Rattle.xds_json.proofs.Lists.{none_left, map-moved, map-twice}
+use Rattle.xds_json.proofs.Lists.{map-moved, map-twice}
 use Rattle.xds_message.proofs.delta_response.resource_values.Goals as goal
 
 pub loop-resource-init : goal.loop-resource-init
@@ -21,5 +21,5 @@ loop-resource-preserved c =
 
 pub returns-clause-ok : goal.returns-clause-ok
 returns-clause-ok c =
-    let none = none_left _ (sym c.loop-resource.invariant.1 ∙ c.in-None.ensures.steps.0) in
+    let none = nil_from_length _ (sym c.loop-resource.invariant.1 ∙ c.in-None.ensures.steps.0) in
     sym (append-nil _) ∙ (rw none at c.loop-resource.invariant.0) ∙ map-twice resource_of resource_object c.args.resources.items

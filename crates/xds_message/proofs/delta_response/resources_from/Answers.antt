@@ -1,11 +1,11 @@
 use Rattle.std.proofs.Common.{[], ◌∷◌, ◌++◌, length, map, refl, sym, ap, ◌∙◌, subst, append_assoc, arith}
 use Rattle.std.specs.List.{AllZip}
 use Rattle.std.specs.Vec.Iter.{into_iter_items}
-use Rattle.std.proofs.lemmas.List.{append-nil}
+use Rattle.std.proofs.lemmas.List.{append-nil, nil_from_length}
 use Rattle.serde_json.specs.View.{view}
 use Rattle.xds_message.specs.DeltaMessages.{SpellsResource}
 use Rattle.xds_message.specs.Responses.{resource_of}
-use Rattle.xds_json.proofs.Lists.{none_left, AllZip-map-more, AllZip-middle, Reads-refused}
+use Rattle.xds_json.proofs.Lists.{AllZip-map-more, AllZip-middle, Reads-refused}
 use Rattle.xds_message.proofs.delta_response.resources_from.Goals as goal
 
 pub loop-value-init : goal.loop-value-init
@@ -36,6 +36,6 @@ returns-in_err-resource_from c =
 pub returns : goal.returns
 returns c =
     let before = c.loop-value.invariant in
-    let none = none_left _ (sym before.3 ∙ c.in-None.ensures.steps.0) in
+    let none = nil_from_length _ (sym before.3 ∙ c.in-None.ensures.steps.0) in
     let all = before.1 ∙ ap (λ vs. before.0 ++ map view vs) none ∙ append-nil before.0 in
     subst (λ ds. AllZip SpellsResource ds (map resource_of c.loop-value.resources.items)) (sym all) before.2

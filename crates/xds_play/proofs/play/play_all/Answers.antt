@@ -1,6 +1,6 @@
 use Rattle.std.proofs.Common.{◌+◌, List, map, drop, string_bytes, subst}
 use Rattle.std.proofs.lemmas.List.{drop_all}
-use Rattle.xds_message.proofs.JoinedLemmas.{drop_here}
+use Rattle.xds_resource.proofs.BoolsAndLists.{drop_here}
 use Rattle.xds_world.specs.declared.command.Command.{Command}
 use Rattle.xds_world.specs.Commands.{said_of}
 use Rattle.xds_play.specs.Played.{Played, takes}
@@ -11,7 +11,7 @@ pub loop-command-preserved : goal.loop-command-preserved
 loop-command-preserved c =
     let commands = c.args.commands.now in
     let x = c.command-item.result in
-    let here = drop_here commands c.loop-command.command-index x c.loop-command-test.true c.command-item.is in
+    let here = drop_here commands c.loop-command.command-index x x c.loop-command-test.true c.command-item.is in
     let before : Played = record { happened = c.loop-command.world; printed = string_bytes c.loop-command.text } in
     let so_far = subst (λ (rest : List Command). ArePlayedTo takes (map said_of commands) (map said_of rest) before) here c.loop-command.invariant in
     played_more takes (map said_of commands) (said_of x) (map said_of (drop (c.loop-command.command-index + 1) commands)) before _ so_far c.in_ok-world-2.ensures.played

@@ -1,6 +1,6 @@
 use Rattle.std.proofs.Common.{◌≡◌, ◌-◌, ◌+◌, ◌∷◌, ◌++◌, ℕ, List, suc, length, take, drop, ap, ◌∙◌, sym, arith, add-one, length-drop}
 use Rattle.std.proofs.lemmas.List.{take_all}
-use Rattle.xds_program.proofs.LastLines.{one_line-take, one_line-all, split_there}
+use Rattle.xds_check.proofs.Traces.{one_line-take, one_line-all, split_there}
 use Rattle.xds_program.proofs.last_line.cut_line.Goals as goal
 
 whole_rest : (bs : List ℕ) (i : ℕ) → drop (suc i) bs ≡ take (length bs - (i + 1)) (drop (i + 1) bs)

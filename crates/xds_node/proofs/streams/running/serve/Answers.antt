@@ -1,7 +1,7 @@
 use Rattle.std.proofs.Common.{[]}
+use Rattle.xds_resource.proofs.Refusing.{err_is}
 use Rattle.xds_frames.specs.Devices.{seen}
 use Rattle.xds_node.specs.Running.{Serves}
-use Rattle.xds_node.proofs.Passing.{err_is}
 use Rattle.xds_node.proofs.Turns.{goes-start, goes-on, serves-err, serves-ok}
 use Rattle.xds_node.proofs.streams.running.serve.Goals as goal
 

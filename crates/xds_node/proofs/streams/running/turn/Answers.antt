@@ -1,8 +1,8 @@
 use Rattle.xds_frames.specs.Devices.{seen}
 use Rattle.xds_node.specs.Turning.{Turns}
-use Rattle.xds_node.proofs.Passing.{err_is}
 use Rattle.xds_node.proofs.Turns.{given, given_none, turn_answers, turn_filled, turn_refused, turn_stops}
 use Rattle.xds_node.proofs.streams.running.turn.Goals as goal
+use Rattle.xds_resource.proofs.Refusing.{err_is}
 
 pub returns-in_err-request-clause-turns : goal.returns-in_err-request-clause-turns
 returns-in_err-request-clause-turns g c =

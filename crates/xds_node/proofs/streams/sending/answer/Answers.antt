@@ -1,9 +1,9 @@
 use Rattle.xds_frames.specs.Devices.{seen}
 use Rattle.xds_core.specs.StreamsSeen.{message_of}
 use Rattle.xds_node.specs.Turning.{AnswersOne}
-use Rattle.xds_node.proofs.Passing.{err_is}
 use Rattle.xds_node.proofs.Turns.{answered_by, asked_err}
 use Rattle.xds_node.proofs.streams.sending.answer.Goals as goal
+use Rattle.xds_resource.proofs.Refusing.{err_is}
 
 pub returns-in_err-ask-clause-answers : goal.returns-in_err-ask-clause-answers
 returns-in_err-ask-clause-answers g c =

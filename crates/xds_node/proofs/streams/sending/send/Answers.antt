@@ -1,8 +1,8 @@
 use Rattle.xds_frames.specs.Devices.{seen}
 use Rattle.xds_node.specs.Sending.{Sends}
-use Rattle.xds_node.proofs.Passing.{err_is}
 use Rattle.xds_node.proofs.Framing.{unframed}
 use Rattle.xds_node.proofs.streams.sending.send.Goals as goal
+use Rattle.xds_resource.proofs.Refusing.{err_is}
 
 pub returns-in_err-block : goal.returns-in_err-block
 returns-in_err-block g c =

@@ -1,8 +1,8 @@
 use Rattle.xds_frames.specs.Devices.{seen}
 use Rattle.xds_node.specs.Turning.{SendsDue}
-use Rattle.xds_node.proofs.Passing.{err_is}
 use Rattle.xds_node.proofs.Sendings.{sent-more, sent-whole, sent-refused, sent-unsent}
 use Rattle.xds_node.proofs.streams.sending.send_due.Goals as goal
+use Rattle.xds_resource.proofs.Refusing.{err_is}
 
 pub returns-in_err-draft-clause-sends : goal.returns-in_err-draft-clause-sends
 returns-in_err-draft-clause-sends g c =
