@@ -6,11 +6,11 @@ use Rattle.xds_resource.specs.declared.types.TypeName.{TypeName}
 use Rattle.xds_resource.specs.declared.refusal.Refusal.TheVariants.{NoStream}
 use Rattle.xds_resource.specs.PerType.{at}
 use Rattle.xds_resource.specs.Types.{types}
-use Rattle.xds_resource.specs.Writes.{text_cmp}
 use Rattle.xds_message.specs.Messages as messages
 use Rattle.xds_message.specs.DeltaMessages.{DeltaRequest}
 use Rattle.xds_message.specs.declared.draft.Draft.{Draft}
 use Rattle.xds_ledger.specs.declared.outcome.Outcome.{Outcome}
+use Rattle.xds_ledger.specs.declared.variant.VariantName.{VariantName}
 use Rattle.xds_core.specs.Stores.{Store}
 use Rattle.xds_core.specs.Streams as streams
 use Rattle.xds_core.specs.Streams.{Stream, Message, variant_of, cluster_in, cluster_of, opening, requested, polled_first}
@@ -27,27 +27,22 @@ use Rattle.xds_world.specs.Happenings.{Wish, Names, Edits}
 use Rattle.xds_world.specs.Worlds.{Link, Peer, opening_requests, has_streams, with_request, changed_by, wish_of, under_way, received_in}
 use Rattle.xds_world.specs.Knows.{TypedWrite}
 use Rattle.xds_world.proofs.Replicas.{some_is, never}
-use Rattle.xds_world.proofs.Queues as queues
-use Rattle.xds_world.proofs.Queues.{started}
+use Rattle.xds_world.proofs.LaneSteps.{IsChange, sotw_changes, delta_changes}
+use Rattle.xds_world.proofs.Queues.{Linked, started}
 use Rattle.xds_world.proofs.Starting.{started_decided, requested_started, requested_decides, polled_variant, polled_started, IsGreeting, Greets, oldest_greets, greeting_more, first_greets}
-use Rattle.xds_world.proofs.LinkSteps as deltas
-use Rattle.xds_world.proofs.LinkSteps.{poll_sent, poll_quiet}
+use Rattle.xds_world.proofs.LinkSteps.{poll_sent, poll_quiet, linked_up, linked_polled}
 use Rattle.xds_world.proofs.LinkTakes as takes
+use Rattle.xds_world.proofs.LinkTakes.{received_is, linked_down, linked_changed, Rests, linked_opened, rests_lost, rests_changed, rests_fresh, spoken}
 use Rattle.xds_world.proofs.Delivering.{AllKnown}
-use Rattle.xds_world.proofs.SotwLinks as sotws
 use Rattle.xds_world.proofs.RestShelves.{rests_forgotten}
 
--- The link of a client of each variant, by the stream as it is for its client; and what the client keeps without a link.
+-- The link of a client of each variant, by the stream as it is for its client; and what the client keeps without a link. One that
+-- polls has no link, and keeps what one of the state of the world does.
 abbrev pub LinkedAs : ClientKind → List TypedWrite → Client → Link → Stream → Type 0
-LinkedAs Sotw all c l x = sotws.Linked all c l x
-LinkedAs Delta all c l x = queues.Linked all c l x
--- one that polls has none
-LinkedAs Rest all c l x = ⊥
+LinkedAs k all c l x = (has_streams k ≡ true) × Linked (spoken k) all c l x
 
 abbrev pub RestsAs : ClientKind → List TypedWrite → TypeName → Shelf → Type 0
-RestsAs Sotw all t f = sotws.Rests t f
-RestsAs Delta all t f = takes.Rests all t f
-RestsAs Rest all t f = sotws.Rests t f
+RestsAs k all t f = Rests (spoken k) all t f
 
 -- and by the stream as its replica has it: while the variant isn't decided, the next request that comes says the client's cluster
 abbrev pub LinkedTo : ClientKind → List TypedWrite → Client → Link → Stream → Type 0
@@ -55,71 +50,49 @@ LinkedTo k all c l x = Greets c x l.up × LinkedAs k all c l (started c.cluster 
 
 -- a client that takes a response stays of its cluster, and of use
 pub received_stays : (k : ClientKind) (test : Test) (c : Client) (d : Draft) (q : Client × Message) → received_in test k c d ≡ Some q → (q.0.cluster ≡ c.cluster) × (q.0.broken ≡ c.broken)
-received_stays Sotw test c d q is = let left = (sotws.received_is test c d q is).left in (ap (λ p. p.0.cluster) left, ap (λ p. p.0.broken) left)
-received_stays Delta test c d q is = let left = (takes.received_is test c d q is).left in (ap (λ p. p.0.cluster) left, ap (λ p. p.0.broken) left)
-received_stays Rest test c d q is = absurd (never q is)
+received_stays k test c d q is = let left = received_is k test c d q is in (ap (λ p. p.0.cluster) left, ap (λ p. p.0.broken) left)
 
 module _ (all : List TypedWrite) where
-  up_as : (k : ClientKind) (c : Client) (l : Link) (x : Stream) (m : Message) (rest : List Message) (z : Outcome × Stream) → l.up ≡ m ∷ rest → (x.variant ≡ None → cluster_of m ≡ c.cluster) → requested x m ≡ Ok z → LinkedAs k all c l x
-      → LinkedAs k all c (record l { up = rest }) z.1
-  up_as Sotw c l x m rest z up says is linked = sotws.linked_up all c l x m rest z up says is linked
-  up_as Delta c l x m rest z up says is linked = deltas.linked_up all c l x m rest z up says is linked
-  up_as Rest c l x m rest z up says is linked = absurd linked
-
   -- the replica took the oldest request
   pub up_to : (k : ClientKind) (c : Client) (l : Link) (x : Stream) (m : Message) (rest : List Message) (z : Outcome × Stream) → l.up ≡ m ∷ rest → requested x m ≡ Ok z → LinkedTo k all c l x → LinkedTo k all c (record l { up = rest }) z.1
   up_to k c l x m rest z up is linked =
       let decided = requested_decides x m z is in (
         λ none. absurd (never (variant_of m) (sym none ∙ decided)),
-        subst (LinkedAs k all c (record l { up = rest })) (sym (started_decided c.cluster z.1 (variant_of m) decided))
-            (up_as k c l (started c.cluster x) m rest z up (oldest_greets c x l.up m rest up linked.0) (requested_started c.cluster x m ∙ is) linked.1),
+        (
+          linked.1.0,
+          subst (Linked (spoken k) all c (record l { up = rest })) (sym (started_decided c.cluster z.1 (variant_of m) decided))
+              (linked_up (spoken k) all c l (started c.cluster x) m rest z up (oldest_greets c x l.up m rest up linked.0) (requested_started c.cluster x m ∙ is) linked.1.1),
+        ),
       )
 
-  sent_as : (k : ClientKind) (replica : ℕ) (store : Store) (c : Client) (l : Link) (x y : Stream) (d : Draft) → ((t : TypeName) → AllKnown all t (at store t).entries) → deltas.IsSent replica store x y d → LinkedAs k all c l x
-      → LinkedAs k all c (record l { down = l.down ++ d ∷ [] }) y
-  sent_as Sotw replica store c l x y d known is linked = sotws.linked_polled all replica store c l x y d known is linked
-  sent_as Delta replica store c l x y d known is linked = deltas.linked_polled all replica store c l x y d known is linked
-  sent_as Rest replica store c l x y d known is linked = absurd linked
-
-  poll_as : (k : ClientKind) (replica : ℕ) (store : Store) (c : Client) (l : Link) (x y : Stream) (ts : List TypeName) (o : Option Draft) → ((t : TypeName) → AllKnown all t (at store t).entries) → polled_first replica store x ts ≡ Ok (o, y) → LinkedAs k all c l x
-      → LinkedAs k all c (record l { down = l.down ++ under_way o }) y
-  poll_as k replica store c l x y ts None known is linked =
-      subst (LinkedAs k all c (record l { down = l.down ++ [] })) (sym (poll_quiet replica store x y ts is)) (subst (λ ds. LinkedAs k all c (record l { down = ds }) x) (sym (append-nil l.down)) linked)
-  poll_as k replica store c l x y ts (Some d) known is linked = sent_as k replica store c l x y d known (poll_sent replica store x y ts d is) linked
+  poll_as : (v : VariantName) (replica : ℕ) (store : Store) (c : Client) (l : Link) (x y : Stream) (ts : List TypeName) (o : Option Draft) → ((t : TypeName) → AllKnown all t (at store t).entries) → polled_first replica store x ts ≡ Ok (o, y) → Linked v all c l x
+      → Linked v all c (record l { down = l.down ++ under_way o }) y
+  poll_as v replica store c l x y ts None known is linked =
+      subst (Linked v all c (record l { down = l.down ++ [] })) (sym (poll_quiet replica store x y ts is)) (subst (λ ds. Linked v all c (record l { down = ds }) x) (sym (append-nil l.down)) linked)
+  poll_as v replica store c l x y ts (Some d) known is linked = linked_polled v all replica store c l x y d known (poll_sent replica store x y ts d is) linked
 
   -- a response was sent, or none
   pub poll_to : (k : ClientKind) (replica : ℕ) (store : Store) (c : Client) (l : Link) (x y : Stream) (ts : List TypeName) (o : Option Draft) → ((t : TypeName) → AllKnown all t (at store t).entries) → polled_first replica store x ts ≡ Ok (o, y) → LinkedTo k all c l x
       → LinkedTo k all c (record l { down = l.down ++ under_way o }) y
   poll_to k replica store c l x y ts o known is linked = (
     λ none. linked.0 (sym (polled_variant replica store x y ts o is) ∙ none),
-    poll_as k replica store c l (started c.cluster x) (started c.cluster y) ts o known (polled_started replica store c.cluster x y ts o is) linked.1,
+    (linked.1.0, poll_as (spoken k) replica store c l (started c.cluster x) (started c.cluster y) ts o known (polled_started replica store c.cluster x y ts o is) linked.1.1),
   )
-
-  down_as : (k : ClientKind) (test : Test) (c : Client) (l : Link) (x : Stream) (d : Draft) (rest : List Draft) (q : Client × Message) → l.down ≡ d ∷ rest → received_in test k c d ≡ Some q → LinkedAs k all c l x
-      → LinkedAs k all q.0 (record l { up = l.up ++ q.1 ∷ []; down = rest }) x
-  down_as Sotw test c l x d rest q down is linked = sotws.linked_down all test c l x d rest q down (sotws.received_is test c d q is) linked
-  down_as Delta test c l x d rest q down is linked = takes.linked_down all test c l x d rest q down (takes.received_is test c d q is) linked
-  down_as Rest test c l x d rest q down is linked = absurd linked
 
   -- while the stream's variant isn't decided, no response is under way
   pub none_brought : (k : ClientKind) (c : Client) (l : Link) (x : Stream) (d : Draft) (rest : List Draft) → l.down ≡ d ∷ rest → x.variant ≡ None → LinkedAs k all c l x → ⊥
-  none_brought Sotw c l x d rest down none linked = sotws.none_brought all c l x d rest down none linked
-  none_brought Delta c l x d rest down none linked = takes.none_brought all c l x d rest down none linked
-  none_brought Rest c l x d rest down none linked = linked
+  none_brought k c l x d rest down none linked = takes.none_brought (spoken k) all c l x d rest down none linked.1
 
   -- the client took the oldest response
   pub down_to : (k : ClientKind) (test : Test) (c : Client) (l : Link) (x : Stream) (d : Draft) (rest : List Draft) (q : Client × Message) → l.down ≡ d ∷ rest → received_in test k c d ≡ Some q → LinkedTo k all c l x
       → LinkedTo k all q.0 (record l { up = l.up ++ q.1 ∷ []; down = rest }) x
   down_to k test c l x d rest q down is linked = (
     λ none. absurd (none_brought k c l (started c.cluster x) d rest down none linked.1),
-    subst (λ cluster. LinkedAs k all q.0 (record l { up = l.up ++ q.1 ∷ []; down = rest }) (started cluster x)) (sym (received_stays k test c d q is).0) (down_as k test c l (started c.cluster x) d rest q down is linked.1),
+    (
+      linked.1.0,
+      subst (λ (p : Client × Message). Linked (spoken k) all p.0 (record l { up = l.up ++ p.1 ∷ []; down = rest }) (started p.0.cluster x)) (sym (received_is k test c d q is)) (linked_down (spoken k) all test c l (started c.cluster x) d rest down linked.1.1),
+    ),
   )
-
-  opened_as : (k : ClientKind) (c : Client) (r n : ℕ) (greeted : Bool) → has_streams k ≡ true → ((t : TypeName) → RestsAs k all t (shelf c t))
-      → LinkedAs k all (clients.linked greeted c) (record { replica = r; stream = n; up = opening_requests k c; down = [] }) (started c.cluster opening)
-  opened_as Sotw c r n greeted has rests = sotws.linked_opened all c r n greeted rests
-  opened_as Delta c r n greeted has rests = takes.linked_opened all c r n greeted rests
-  opened_as Rest c r n greeted has rests = absurd cc
 
   opening_greets : (k : ClientKind) (c : Client) → has_streams k ≡ true → IsGreeting (clients.linked (is_greeted c false types) c) (opening_requests k c)
   opening_greets Sotw c has = first_greets streams.Sotw (sotw_first c) c (λ t. refl) types
@@ -129,20 +102,13 @@ module _ (all : List TypedWrite) where
   -- the client connected
   pub opened_to : (k : ClientKind) (c : Client) (r n : ℕ) → has_streams k ≡ true → ((t : TypeName) → RestsAs k all t (shelf c t))
       → LinkedTo k all (clients.linked (is_greeted c false types) c) (record { replica = r; stream = n; up = opening_requests k c; down = [] }) opening
-  opened_to k c r n has rests = (λ none. opening_greets k c has, opened_as k c r n (is_greeted c false types) has rests)
-
-  lost_as : (k : ClientKind) (c : Client) (l : Link) (x : Stream) → LinkedAs k all c l x → (t : TypeName) → RestsAs k all t (shelf (unlinked c) t)
-  lost_as Sotw c l x linked t = sotws.rests_lost all c l x linked t
-  lost_as Delta c l x linked t = takes.rests_lost all c l x linked t
-  lost_as Rest c l x linked t = absurd linked
+  opened_to k c r n has rests = (λ none. opening_greets k c has, (has, linked_opened k all c r n (is_greeted c false types) has rests))
 
   pub lost_to : (k : ClientKind) (c : Client) (l : Link) (x : Stream) → LinkedTo k all c l x → (t : TypeName) → RestsAs k all t (shelf (unlinked c) t)
-  lost_to k c l x linked = lost_as k c l (started c.cluster x) linked.1
+  lost_to k c l x linked = rests_lost (spoken k) all c l (started c.cluster x) linked.1.1
 
   pub fresh_as : (k : ClientKind) (t : TypeName) → RestsAs k all t bare
-  fresh_as Sotw t = λ name unwanted. finmap.get-empty text_cmp name
-  fresh_as Delta t = takes.rests_fresh all t
-  fresh_as Rest t = λ name unwanted. finmap.get-empty text_cmp name
+  fresh_as k t = rests_fresh (spoken k) all t
 
 -- ---- Change
 
@@ -169,6 +135,7 @@ pub record IsWished (k : ClientKind) (p : Peer) (up : Bool) (t : TypeName) (wish
   pub left : q.0 ≡ clients.changed up t wants p.client
   pub sent : q.1 ≡ (if is_sent up (shelf p.client t) wants then Some message else None)
   pub greets : p.client.greeted ≡ false → cluster_of message ≡ p.client.cluster
+  pub change : IsChange (spoken k) t (shelf p.client t) wants message
 
 abbrev pub wished_is : (k : ClientKind) → has_streams k ≡ true → (p : Peer) (up : Bool) (t : TypeName) (wish : Wish) (q : Client × Option Message) → wish_of k p up t wish ≡ Some q → IsWished k p up t wish q
 wished_is Sotw has p up t (Names names) q is =
@@ -182,6 +149,7 @@ wished_is Sotw has p up t (Names names) q is =
       left = ap (λ y. y.0) made.2 ∙ ap (λ y. y.0) once;
       sent = ap (λ y. y.1) made.2 ∙ ap (λ y. option_map streams.Sotw y.1) once ∙ tagged_if streams.Sotw (is_sent up (shelf p.client t) w) m;
       greets = λ new. ap (λ b. cluster_in (if b then None else Some (identity p.client.node_id p.client.cluster))) new;
+      change = sotw_changes t (node p.client.greeted p.client) w (if is_sent up (shelf p.client t) w then true else (shelf p.client t).asked) (shelf p.client t);
     }
 wished_is Sotw has p up t (Edits subscribe unsubscribe) q is = absurd cc
 wished_is Delta has p up t (Names names) q is = absurd cc
@@ -198,6 +166,7 @@ wished_is Delta has p up t (Edits subscribe unsubscribe) q is =
       left = ap (λ y. y.0) made.2 ∙ ap (λ y. y.0) once;
       sent = ap (λ y. y.1) made.2 ∙ ap (λ y. option_map streams.Delta y.1) once ∙ tagged_if streams.Delta (is_sent up (shelf p.client t) w) m;
       greets = λ new. ap (λ b. cluster_in (if b then None else Some (identity p.client.node_id p.client.cluster))) new;
+      change = delta_changes t (node p.client.greeted p.client) s u (shelf p.client t);
     }
 wished_is Rest has p up t wish q is = absurd cc
 
@@ -213,37 +182,28 @@ wished_stays Delta p up t wish q is = let left = (wished_is Delta refl p up t wi
 wished_stays Rest p up t wish q is = let made = rest_wished p up t wish q is in (ap (λ (y : Client × Option Message). y.0.cluster) made.1, ap (λ (y : Client × Option Message). y.0.broken) made.1)
 
 module _ (all : List TypedWrite) where
-  changed_as : (k : ClientKind) (p : Peer) (l : Link) (x : Stream) (t : TypeName) (wish : Wish) (q : Client × Option Message) → wish_of k p true t wish ≡ Some q → LinkedAs k all p.client l x → LinkedAs k all q.0 (with_request q.1 l) x
-  changed_as Rest p l x t wish q is linked = absurd linked
-  changed_as Sotw p l x t (Edits subscribe unsubscribe) q is linked = absurd cc
-  changed_as Delta p l x t (Names names) q is linked = absurd cc
-  changed_as Sotw p l x t (Names names) q is linked =
-      let made = wished_is Sotw refl p true t (Names names) q is in
-      subst (λ y. sotws.Linked all q.0 y x) (sym (sent_on l (is_sent true (shelf p.client t) made.wants) made.message) ∙ ap (λ o. with_request o l) (sym made.sent))
-      (subst (λ y. sotws.Linked all y (record l { up = l.up ++ (if is_sent true (shelf p.client t) made.wants then made.message ∷ [] else []) }) x) (sym made.left) (sotws.linked_changed all p.client l x t made.wants linked))
-  changed_as Delta p l x t (Edits subscribe unsubscribe) q is linked =
-      let made = wished_is Delta refl p true t (Edits subscribe unsubscribe) q is in
-      subst (λ y. queues.Linked all q.0 y x) (sym (sent_on l (is_sent true (shelf p.client t) made.wants) made.message) ∙ ap (λ o. with_request o l) (sym made.sent))
-      (subst (λ y. queues.Linked all y (record l { up = l.up ++ (if is_sent true (shelf p.client t) made.wants then made.message ∷ [] else []) }) x) (sym made.left)
-      (takes.linked_changed all p.client l x t (wants_of subscribe) (wants_of unsubscribe) linked))
-
-  changed_on : (k : ClientKind) → has_streams k ≡ true → (p : Peer) (l : Link) (x : Stream) (t : TypeName) (wish : Wish) (q : Client × Option Message) → wish_of k p true t wish ≡ Some q → LinkedTo k all p.client l x → LinkedTo k all q.0 (with_request q.1 l) x
-  changed_on k has p l x t wish q is linked =
-      let made = wished_is k has p true t wish q is in
+  -- the client wants something else of a type
+  pub changed_to : (k : ClientKind) (p : Peer) (l : Link) (x : Stream) (t : TypeName) (wish : Wish) (q : Client × Option Message) → wish_of k p true t wish ≡ Some q → LinkedTo k all p.client l x → LinkedTo k all q.0 (with_request q.1 l) x
+  changed_to k p l x t wish q is linked =
+      let made = wished_is k linked.1.0 p true t wish q is in
       let sent : Bool = is_sent true (shelf p.client t) made.wants in
       let same : q.0.cluster ≡ p.client.cluster = ap (λ (c : Client). c.cluster) made.left in (
         λ none. subst (λ (m : Link). IsGreeting q.0 m.up) (sym (sent_on l sent made.message) ∙ ap (λ o. with_request o l) (sym made.sent))
             (greeting_more p.client q.0 l.up sent made.message same (λ unsent. ap (λ (c : Client). c.greeted) made.left ∙ ap (λ b. if b then true else p.client.greeted) unsent) made.greets (linked.0 none)),
-        subst (λ cluster. LinkedAs k all q.0 (with_request q.1 l) (started cluster x)) (sym same) (changed_as k p l (started p.client.cluster x) t wish q is linked.1),
+        (
+          linked.1.0,
+          subst (λ y. Linked (spoken k) all q.0 y (started q.0.cluster x)) (sym (sent_on l sent made.message) ∙ ap (λ o. with_request o l) (sym made.sent))
+              (subst (λ y. Linked (spoken k) all y (record l { up = l.up ++ (if sent then made.message ∷ [] else []) }) (started y.cluster x)) (sym made.left)
+              (linked_changed (spoken k) all p.client l (started p.client.cluster x) t made.wants made.message made.change linked.1.1)),
+        ),
       )
 
-  -- the client wants something else of a type
-  pub changed_to : (k : ClientKind) (p : Peer) (l : Link) (x : Stream) (t : TypeName) (wish : Wish) (q : Client × Option Message) → wish_of k p true t wish ≡ Some q → LinkedTo k all p.client l x → LinkedTo k all q.0 (with_request q.1 l) x
-  changed_to Sotw p l x t wish q is linked = changed_on Sotw refl p l x t wish q is linked
-  changed_to Delta p l x t wish q is linked = changed_on Delta refl p l x t wish q is linked
-  changed_to Rest p l x t wish q is linked = absurd linked.1
+  wished_rests : (k : ClientKind) → has_streams k ≡ true → (p : Peer) (t : TypeName) (wish : Wish) (q : Client × Option Message) → wish_of k p false t wish ≡ Some q → ((u : TypeName) → RestsAs k all u (shelf p.client u)) → (u : TypeName) → RestsAs k all u (shelf q.0 u)
+  wished_rests k has p t wish q is rests u = let made = wished_is k has p false t wish q is in subst (λ y. RestsAs k all u (shelf y u)) (sym made.left) (rests_changed (spoken k) all p.client t made.wants rests u)
 
   pub rests_as : (k : ClientKind) (p : Peer) (t : TypeName) (wish : Wish) (q : Client × Option Message) → wish_of k p false t wish ≡ Some q → ((u : TypeName) → RestsAs k all u (shelf p.client u)) → (u : TypeName) → RestsAs k all u (shelf q.0 u)
-  rests_as Sotw p t wish q is rests u = let made = wished_is Sotw refl p false t wish q is in subst (λ y. sotws.Rests u (shelf y u)) (sym made.left) (sotws.rests_changed p.client t made.wants rests u)
-  rests_as Delta p t wish q is rests u = let made = wished_is Delta refl p false t wish q is in subst (λ y. takes.Rests all u (shelf y u)) (sym made.left) (takes.rests_changed all p.client t made.wants rests u)
-  rests_as Rest p t wish q is rests u = let made = rest_wished p false t wish q is in subst (λ (y : Client × Option Message). sotws.Rests u (shelf y.0 u)) (sym made.1) (rests_forgotten p.client t made.0 rests u)
+  rests_as Sotw p t wish q is rests u = wished_rests Sotw refl p t wish q is rests u
+  rests_as Delta p t wish q is rests u = wished_rests Delta refl p t wish q is rests u
+  rests_as Rest p t wish q is rests u =
+      let made = rest_wished p false t wish q is in
+      subst (λ (y : Client × Option Message). RestsAs Rest all u (shelf y.0 u)) (sym made.1) (record { within = rests_forgotten p.client t made.0 (λ s. (rests s).within) u; made = λ name h held. tt })

@@ -1,5 +1,5 @@
 -- What an answer leaves of one name, on both sides: what the server believes, and what the client holds.
-use Rattle.std.proofs.Common.{◌≡◌, ℕ, List, Bool, true, false, ◌||◌, ◌&&◌, Option, Some, None, refl, sym, ◌∙◌}
+use Rattle.std.proofs.Common.{◌≡◌, ◌⊎◌, inl, inr, ℕ, List, Bool, true, false, ◌||◌, ◌&&◌, Option, Some, None, refl, sym, ap, subst, ◌∙◌}
 use Rattle.std.specs.Prelude.{if◌then◌else◌, is_some, option_map, bytes_eq}
 use Rattle.std.specs.Option.{option_or}
 use Rattle.xds_ledger.specs.declared.entry.Entry.{Entry}
@@ -12,87 +12,110 @@ use Rattle.xds_ledger.specs.Believing.{believed_accepted, believed_touched}
 use Rattle.xds_cache.specs.Shelves.{Holding}
 
 -- what a client holds of a name after a response of which it takes everything
-abbrev pub held_after : Bool → Bool → Option Holding → Option Holding → Option Holding
-held_after wanted removed stated held = if wanted then option_or stated (if false || removed then None else held) else None
+abbrev pub held_after : Bool → Bool → Bool → Option Holding → Option Holding → Option Holding
+held_after whole wanted removed stated held = if wanted then option_or stated (if whole || removed then None else held) else None
 
--- what a response says of a name, as the client sees it
-abbrev pub Says : Option Due → Bool → Option Holding → Type 0
-Says (Some (Stated v)) removed stated = (h : Holding) × (stated ≡ Some h) × (h.version ≡ v)
-Says (Some Removed) removed stated = (stated ≡ None) × (removed ≡ true)
-Says None removed stated = (stated ≡ None) × (removed ≡ false)
-
--- what is believed told is held at that version
-abbrev pub IsTold : Option Entry → Option Holding → Type 0
-IsTold b held = (v : List ℕ) → b ≡ Some (Told v) → (h : Holding) × (held ≡ Some h) × (h.version ≡ v)
+-- what is held of a name once the client wants something else
+abbrev pub kept_after : Bool → Option Holding → Option Holding
+kept_after wanted held = if wanted then held else None
 
 -- what isn't believed held isn't held
 abbrev pub IsNone : Option Entry → Option Holding → Type 0
 IsNone b held = b ≡ None → held ≡ None
 
-told_is : (v w : List ℕ) → (◌≡◌ {A = Option Entry} (Some (Told v)) (Some (Told w))) → v ≡ w
-told_is v w e = cc
-
--- a response of the incremental variant leaves a name that it doesn't speak of as it was
-untouched_none : (touched : Bool) (b : Option Entry) → believed_accepted false touched None b ≡ b
-untouched_none touched b = refl
-
--- delta, the response accepted: a name that is stated and untouched is wanted
-pub told_accepted : (touched wanted removed : Bool) (o : Option Due) (b : Option Entry) (stated held : Option Holding) → Says o removed stated → ((v : List ℕ) → o ≡ Some (Stated v) → touched ≡ false → wanted ≡ true)
-    → (wanted ≡ false → held ≡ None) → IsTold b held → IsTold (believed_accepted false touched o b) (held_after wanted removed stated held)
-told_accepted true wanted removed (Some d) b stated held says reached within told v is = absurd cc
-told_accepted false wanted removed (Some (Stated w)) b stated held says reached within told v is =
-    (says.0, (λ i. if reached w refl refl i then option_or (says.1 i) (if false || removed then None else held) else None), says.2 ∙ told_is w v is)
-told_accepted false wanted removed (Some Removed) b stated held says reached within told v is = absurd cc
-told_accepted touched true removed None b stated held says reached within told v is =
-    let was = told v (sym (untouched_none touched b) ∙ is) in (was.0, (λ i. option_or (says.0 i) (if false || says.1 i then None else held)) ∙ was.1, was.2)
-told_accepted touched false removed None b stated held says reached within told v is =
-    let was = told v (sym (untouched_none touched b) ∙ is) in let never : None ≡ Some was.0 = sym (within refl) ∙ was.1 in absurd cc
-
-pub none_accepted : (touched wanted removed : Bool) (o : Option Due) (b : Option Entry) (stated held : Option Holding) → Says o removed stated → IsNone b held → IsNone (believed_accepted false touched o b) (held_after wanted removed stated held)
-none_accepted true wanted removed (Some d) b stated held says none is = absurd cc
-none_accepted false wanted removed (Some (Stated w)) b stated held says none is = absurd cc
-none_accepted false true removed (Some Removed) b stated held says none is = λ i. option_or (says.0 i) (if false || says.1 i then None else held)
-none_accepted false false removed (Some Removed) b stated held says none is = refl
-none_accepted touched true removed None b stated held says none is = (λ i. option_or (says.0 i) (if false || says.1 i then None else held)) ∙ none is
-none_accepted touched false removed None b stated held says none is = refl
-
--- ---- a change
-
 -- what is believed of a name after a request's names were taken
 abbrev pub believed_after : Bool → Bool → Bool → Option Entry → Option Entry
 believed_after touched reached mentioned b = if touched then believed_touched reached mentioned b else b
 
--- what is held of a name once the client wants something else
-abbrev pub kept_after : Bool → Option Holding → Option Holding
-kept_after wanted held = if wanted then held else None
+told_is : (v w : List ℕ) → (◌≡◌ {A = Option Entry} (Some (Told v)) (Some (Told w))) → v ≡ w
+told_is v w e = cc
 
 never_told : (reached known : Bool) (v : List ℕ) → (if reached && known then Some Unsure else None) ≡ Some (Told v) → ⊥
 never_told true true v e = cc
 never_told true false v e = cc
 never_told false known v e = cc
 
-kept_told : (before wanted : Bool) (held : Option Holding) (h : Holding) → wanted ≡ before → (before ≡ false → held ≡ None) → held ≡ Some h → kept_after wanted held ≡ Some h
-kept_told true true held h same within is = is
-kept_told true false held h same within is = absurd cc
-kept_told false true held h same within is = absurd cc
-kept_told false false held h same within is = sym (within refl) ∙ is
+-- a name that doesn't count as told doesn't after a request either, nor does one that the request touches
+pub not_told : (touched reached mentioned : Bool) (b : Option Entry) (v : List ℕ) → (b ≡ Some (Told v) → ⊥) → believed_after touched reached mentioned b ≡ Some (Told v) → ⊥
+not_told true reached mentioned b v never is = never_told reached (mentioned || is_some b) v is
+not_told false reached mentioned b v never is = never is
+
+pub touched_not_told : (touched reached mentioned : Bool) (b : Option Entry) (v : List ℕ) → touched ≡ true → believed_after touched reached mentioned b ≡ Some (Told v) → ⊥
+touched_not_told touched reached mentioned b v touched_it is = never_told reached (mentioned || is_some b) v (ap (λ x. believed_after x reached mentioned b) (sym touched_it) ∙ is)
+
+pub by_touch : (touched reached mentioned : Bool) (b : Option Entry) (v : List ℕ) → believed_after touched reached mentioned b ≡ Some (Told v) → (touched ≡ true) ⊎ (b ≡ Some (Told v))
+by_touch true reached mentioned b v is = inl refl
+by_touch false reached mentioned b v is = inr is
 
 absent_before : (mentioned : Bool) (b : Option Entry) → (if true && (mentioned || is_some b) then Some Unsure else None) ≡ None → b ≡ None
 absent_before true b e = absurd cc
 absent_before false None e = refl
 absent_before false (Some x) e = absurd cc
 
--- an untouched name is wanted as before
-pub told_changed : (touched before wanted mentioned : Bool) (b : Option Entry) (held : Option Holding) → (touched ≡ false → wanted ≡ before) → (before ≡ false → held ≡ None) → IsTold b held
-    → IsTold (believed_after touched wanted mentioned b) (kept_after wanted held)
-told_changed true before wanted mentioned b held same within told v is = absurd (never_told wanted (mentioned || is_some b) v is)
-told_changed false before wanted mentioned b held same within told v is = let was = told v is in (was.0, kept_told before wanted held was.0 (same refl) within was.1, was.2)
+pub none_changed : (touched wanted mentioned : Bool) (b : Option Entry) (held : Option Holding) → IsNone b held → IsNone (believed_after touched wanted mentioned b) (kept_after wanted held)
+none_changed touched false mentioned b held none is = refl
+none_changed true true mentioned b held none is = none (absent_before mentioned b is)
+none_changed false true mentioned b held none is = none is
 
-pub none_changed : (touched before wanted mentioned : Bool) (b : Option Entry) (held : Option Holding) → IsNone b held → IsNone (believed_after touched wanted mentioned b) (kept_after wanted held)
-none_changed true before false mentioned b held none is = refl
-none_changed true before true mentioned b held none is = none (absent_before mentioned b is)
-none_changed false before false mentioned b held none is = refl
-none_changed false before true mentioned b held none is = none is
+kept_same : (before wanted : Bool) (held : Option Holding) → wanted ≡ before → (before ≡ false → held ≡ None) → kept_after wanted held ≡ held
+kept_same before true held same within = refl
+kept_same before false held same within = sym (within (sym same))
+
+-- ---- a response, by what it is to hold a name at a version
+
+module _ (P : List ℕ → Holding → Type 0) where
+  abbrev pub IsHeld : List ℕ → Option Holding → Type 0
+  IsHeld v held = (h : Holding) × (held ≡ Some h) × P v h
+
+  -- what is believed told is held at that version
+  abbrev pub IsTold : Option Entry → Option Holding → Type 0
+  IsTold b held = (v : List ℕ) → b ≡ Some (Told v) → IsHeld v held
+
+  -- what a response says of a name, as the client sees it
+  abbrev pub Says : Option Due → Bool → Option Holding → Type 0
+  Says (Some (Stated v)) removed stated = IsHeld v stated
+  Says (Some Removed) removed stated = (stated ≡ None) × (removed ≡ true)
+  Says None removed stated = (stated ≡ None) × (removed ≡ false)
+
+  -- Once it is accepted: a name that is stated and untouched is wanted. Where the response is the whole, a name that was touched
+  -- doesn't count as told.
+  pub told_accepted : (whole touched wanted removed : Bool) (o : Option Due) (b : Option Entry) (stated held : Option Holding) → Says o removed stated → ((v : List ℕ) → o ≡ Some (Stated v) → touched ≡ false → wanted ≡ true)
+      → ((v : List ℕ) → whole ≡ true → touched ≡ true → b ≡ Some (Told v) → ⊥) → (wanted ≡ false → held ≡ None) → IsTold b held → IsTold (believed_accepted whole touched o b) (held_after whole wanted removed stated held)
+  told_accepted whole true wanted removed (Some d) b stated held says reached unsure within told v is = absurd cc
+  told_accepted whole false wanted removed (Some (Stated w)) b stated held says reached unsure within told v is =
+      (says.0, (λ i. if reached w refl refl i then option_or (says.1 i) (if whole || removed then None else held) else None), subst (λ x. P x says.0) (told_is w v is) says.2)
+  told_accepted whole false wanted removed (Some Removed) b stated held says reached unsure within told v is = absurd cc
+  told_accepted true true wanted removed None b stated held says reached unsure within told v is = absurd (unsure v refl refl is)
+  told_accepted true false wanted removed None b stated held says reached unsure within told v is = absurd cc
+  told_accepted false touched true removed None b stated held says reached unsure within told v is =
+      let was = told v is in (was.0, (λ i. option_or (says.0 i) (if false || says.1 i then None else held)) ∙ was.1, was.2)
+  told_accepted false touched false removed None b stated held says reached unsure within told v is = let was = told v is in let never : None ≡ Some was.0 = sym (within refl) ∙ was.1 in absurd cc
+
+  pub none_accepted : (whole touched wanted removed : Bool) (o : Option Due) (b : Option Entry) (stated held : Option Holding) → Says o removed stated → (whole ≡ false → IsNone b held) → IsNone (believed_accepted whole touched o b) (held_after whole wanted removed stated held)
+  none_accepted whole true wanted removed (Some d) b stated held says none is = absurd cc
+  none_accepted whole false wanted removed (Some (Stated w)) b stated held says none is = absurd cc
+  none_accepted whole touched false removed o b stated held says none is = refl
+  none_accepted true false true removed (Some Removed) b stated held says none is = ap (λ x. option_or x None) says.0
+  none_accepted false false true removed (Some Removed) b stated held says none is = λ i. option_or (says.0 i) (if false || says.1 i then None else held)
+  none_accepted true touched true removed None b stated held says none is = ap (λ x. option_or x None) says.0
+  none_accepted false touched true removed None b stated held says none is = (λ i. option_or (says.0 i) (if false || says.1 i then None else held)) ∙ none refl is
+
+  -- once the client wants something else: an untouched name is wanted as before
+  pub told_changed : (touched before wanted mentioned : Bool) (b : Option Entry) (held : Option Holding) → (touched ≡ false → wanted ≡ before) → (before ≡ false → held ≡ None) → IsTold b held → IsTold (believed_after touched wanted mentioned b) (kept_after wanted held)
+  told_changed true before wanted mentioned b held same within told v is = absurd (never_told wanted (mentioned || is_some b) v is)
+  told_changed false before wanted mentioned b held same within told v is = let was = told v is in (was.0, kept_same before wanted held (same refl) within ∙ was.1, was.2)
+
+-- whatever holds of what a response states, and of what is held, holds of what is held then
+pub held_made : (Q : Holding → Type 0) (whole wanted removed : Bool) (stated held : Option Holding) (h : Holding) → ((x : Holding) → stated ≡ Some x → Q x) → ((x : Holding) → held ≡ Some x → Q x) → held_after whole wanted removed stated held ≡ Some h → Q h
+held_made Q whole false removed stated held h new old is = absurd cc
+held_made Q whole true removed (Some x) held h new old is = new h is
+held_made Q true true removed None held h new old is = absurd cc
+held_made Q false true true None held h new old is = absurd cc
+held_made Q false true false None held h new old is = old h is
+
+pub kept_made : (Q : Holding → Type 0) (wanted : Bool) (held : Option Holding) (h : Holding) → ((x : Holding) → held ≡ Some x → Q x) → kept_after wanted held ≡ Some h → Q h
+kept_made Q true held h old is = old h is
+kept_made Q false held h old is = absurd cc
 
 -- ---- a first request
 
@@ -103,7 +126,10 @@ resumed_after version b = option_or (option_map Told version) b
 abbrev pub version_held : Option Holding → Option (List ℕ)
 version_held held = option_map (λ h. h.version) held
 
-pub told_resumed : (b : Option Entry) (held : Option Holding) → ((v : List ℕ) → b ≡ Some (Told v) → ⊥) → IsTold (resumed_after (version_held held) b) held
+abbrev pub IsOfVersion : List ℕ → Holding → Type 0
+IsOfVersion v h = h.version ≡ v
+
+pub told_resumed : (b : Option Entry) (held : Option Holding) → ((v : List ℕ) → b ≡ Some (Told v) → ⊥) → IsTold IsOfVersion (resumed_after (version_held held) b) held
 told_resumed b None unsure v is = absurd (unsure v is)
 told_resumed b (Some h) unsure v is = (h, refl, told_is h.version v is)
 
@@ -116,13 +142,13 @@ none_resumed b (Some h) is = absurd cc
 -- a client that is owed nothing of a name holds it exactly where it is present, at that version
 abbrev pub IsShown : Option (List ℕ) → Option Holding → Type 0
 IsShown None held = held ≡ None
-IsShown (Some v) held = (h : Holding) × (held ≡ Some h) × (h.version ≡ v)
+IsShown (Some v) held = IsHeld IsOfVersion v held
 
 same_version : (w v : List ℕ) (b : Bool) → bytes_eq w v ≡ b → (if b then None else Some (Stated v)) ≡ None → w ≡ v
 same_version w v true same e = bytes_eq_tells w v same
 same_version w v false same e = absurd cc
 
-pub shown_where_not_owed : (b : Option Entry) (present : Option (List ℕ)) (held : Option Holding) → owed b present ≡ None → IsTold b held → IsNone b held → IsShown present held
+pub shown_where_not_owed : (b : Option Entry) (present : Option (List ℕ)) (held : Option Holding) → owed b present ≡ None → IsTold IsOfVersion b held → IsNone b held → IsShown present held
 shown_where_not_owed None None held nothing told none = none refl
 shown_where_not_owed None (Some v) held nothing told none = absurd cc
 shown_where_not_owed (Some (Told w)) None held nothing told none = absurd cc

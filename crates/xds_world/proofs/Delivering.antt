@@ -15,13 +15,15 @@ use Rattle.xds_resource.proofs.MadeMaps.{EachFound, each_found}
 use Rattle.xds_interest.specs.Interests.{Selection, reaches, covers}
 use Rattle.xds_interest.proofs.Reaching.{covered_is_reached}
 use Rattle.xds_catalogue.specs.Holdings.{Holdings, Entries}
+use Rattle.xds_message.specs.declared.draft.Draft.TheVariants as drafts
 use Rattle.xds_message.specs.Drafts.{DraftedResource, drafted_resource}
+use Rattle.xds_ledger.specs.declared.variant.VariantName.{VariantName}
 use Rattle.xds_ledger.specs.declared.variant.VariantName.TheVariants.{Delta}
 use Rattle.xds_ledger.specs.declared.entry.Due.{Due}
 use Rattle.xds_ledger.specs.declared.entry.Due.TheVariants.{Stated, Removed}
-use Rattle.xds_ledger.specs.Variants.{is_told}
-use Rattle.xds_ledger.specs.Owed.{Beliefs, live_version, version_shown, present, owed_of}
-use Rattle.xds_ledger.specs.Offers.{Offer, offer}
+use Rattle.xds_ledger.specs.Variants.{is_whole}
+use Rattle.xds_ledger.specs.Owed.{Beliefs, live_version, version_shown, present, is_owed, owed_of}
+use Rattle.xds_ledger.specs.Offers.{Offer, offer, stated_version}
 use Rattle.xds_ledger.proofs.ByName.{offer_says_it}
 use Rattle.xds_sessions.specs.DeltaPolls.{is_statement, is_removal, names_where, resource_of as drafted_of, resource_at, response}
 use Rattle.xds_sessions.proofs.Stating.{present_if_stated, kept_at}
@@ -32,7 +34,7 @@ use Rattle.xds_world.specs.Knows.{TypedWrite}
 use Rattle.xds_world.specs.Claims.{holding_of, shown_of}
 use Rattle.xds_world.proofs.Replicas.{some_is, ok_is, if_both}
 use Rattle.xds_world.proofs.ByOneName.{Says}
-use Rattle.xds_world.proofs.Lanes.{IsMade, stated_in, is_removed_in}
+use Rattle.xds_world.proofs.Lanes.{IsAt, IsMade, stated_in, is_removed_in}
 
 -- ---- what a catalogue holds
 
@@ -76,12 +78,12 @@ with_first r m ns = map delta_stated (map drafted_resource (cons_option r (filte
 abbrev StatesBehind : TypeName → Entries → List (List ℕ) → List ℕ → Type 0
 StatesBehind t m ns q = (before : Cache) → finmap.get (stated_by t before (listed m ns)) q ≡ option_or (cond (has_text ns q) (live m q) None) (finmap.get before q)
 
-skipped : (same has : Bool) (l old : Option Holding) → (same ≡ true → l ≡ None) → option_or (cond has l None) old ≡ option_or (cond (same || has) l None) old
+pub skipped : (same has : Bool) (l old : Option Holding) → (same ≡ true → l ≡ None) → option_or (cond has l None) old ≡ option_or (cond (same || has) l None) old
 skipped true true l old is = refl
 skipped true false l old is = ap (λ o. option_or o old) (sym (is refl))
 skipped false has l old is = refl
 
-put_on : (same has : Bool) (l old : Option Holding) (h : Holding) → (same ≡ true → l ≡ Some h) → option_or (cond has l None) (cond same (Some h) old) ≡ option_or (cond (same || has) l None) old
+pub put_on : (same has : Bool) (l old : Option Holding) (h : Holding) → (same ≡ true → l ≡ Some h) → option_or (cond has l None) (cond same (Some h) old) ≡ option_or (cond (same || has) l None) old
 put_on true true l old h is = ap (λ o. option_or o (Some h)) (is refl) ∙ ap (λ o. option_or o old) (sym (is refl))
 put_on true false l old h is = ap (λ o. option_or o old) (sym (is refl))
 put_on false has l old h is = refl
@@ -144,7 +146,7 @@ names_there says o q = found_where says o (finmap.entries o) q (each_found o) �
 -- ---- the response
 
 stated_there : (all : List TypedWrite) (replica : ℕ) (t : TypeName) (h : Holdings) (o : Offer) (number : ℕ) (q : List ℕ) → AllKnown all t h.entries
-    → finmap.get (stated_in t (response replica t h o number)) q ≡ option_or (cond (option_map_or is_statement (finmap.get o q) false) (live h.entries q) None) None
+    → finmap.get (stated_in t (drafts.Delta (response replica t h o number))) q ≡ option_or (cond (option_map_or is_statement (finmap.get o q) false) (live h.entries q) None) None
 stated_there all replica t h o number q known =
     stated_names all t h.entries (names_where is_statement o) q known finmap.empty ∙ (λ i. option_or (cond (names_there is_statement o q i) (live h.entries q) None) (finmap.get-empty text_cmp q i))
 
@@ -152,14 +154,22 @@ marked_there : (b : Bool) → is_some (cond {A = Option (Unit {0})} b (Some tt) 
 marked_there true = refl
 marked_there false = refl
 
-removed_there : (replica : ℕ) (t : TypeName) (h : Holdings) (o : Offer) (number : ℕ) (q : List ℕ) → is_removed_in (response replica t h o number) q ≡ option_map_or is_removal (finmap.get o q) false
+removed_there : (replica : ℕ) (t : TypeName) (h : Holdings) (o : Offer) (number : ℕ) (q : List ℕ) → is_removed_in t (drafts.Delta (response replica t h o number)) q ≡ option_map_or is_removal (finmap.get o q) false
 removed_there replica t h o number q = ap is_some (get-tabulate marked (names_where is_removal o) q) ∙ marked_there (has_text (names_where is_removal o) q) ∙ names_there is_removal o q
 
 -- ---- what is offered is present
 
-present_at : (s : Selection) (m : Entries) (b : Beliefs) (t : TypeName) (q version : List ℕ) → finmap.get (offer Delta t s m b) q ≡ Some (Stated version) → present s m q ≡ Some version
-present_at s m b t q version is =
-    present_if_stated (finmap.get b q) (present s m q) version (kept_at (option_map_or (is_told Delta t) (owed_of s m b q) false) (owed_of s m b q) version (sym (offer_says_it Delta t s m b q) ∙ is))
+pub whole_at : (p : Option (List ℕ)) (version : List ℕ) → option_map Stated p ≡ Some (Stated version) → p ≡ Some version
+whole_at None version is = absurd cc
+whole_at (Some v) version is = ap (option_and_then stated_version) is
+
+present_by : (v : VariantName) (t : TypeName) (s : Selection) (m : Entries) (b : Beliefs) (q version : List ℕ) (whole : Bool)
+    → (if whole then option_map Stated (present s m q) else if is_owed v t s m b q then owed_of s m b q else None) ≡ Some (Stated version) → present s m q ≡ Some version
+present_by v t s m b q version true is = whole_at (present s m q) version is
+present_by v t s m b q version false is = present_if_stated (finmap.get b q) (present s m q) version (kept_at (is_owed v t s m b q) (owed_of s m b q) version is)
+
+pub stated_present : (v : VariantName) (t : TypeName) (s : Selection) (m : Entries) (b : Beliefs) (q version : List ℕ) → finmap.get (offer v t s m b) q ≡ Some (Stated version) → present s m q ≡ Some version
+stated_present v t s m b q version is = present_by v t s m b q version (is_whole v t) (sym (offer_says_it v t s m b q) ∙ is)
 
 live_body : (w : StampedWrite) (version : List ℕ) (b : Option (List ℕ)) → (if is_some b then Some (version_of w) else None) ≡ Some version
     → (h : Holding) × (option_map (λ body. record { version = version_of w; body = body }) b ≡ Some h) × (h.version ≡ version)
@@ -176,19 +186,19 @@ live_at s q (Some w) version is =
 
 -- ---- what a response says
 
-says_by : (s : Selection) (m : Entries) (b : Beliefs) (t : TypeName) (q : List ℕ) (x : Option Due) (removed : Bool) (stated : Option Holding) → finmap.get (offer Delta t s m b) q ≡ x → removed ≡ option_map_or is_removal x false
-    → stated ≡ option_or (cond (option_map_or is_statement x false) (live m q) None) None → Says x removed stated
-says_by s m b t q None removed stated is gone states = (states, gone)
-says_by s m b t q (Some (Stated version)) removed stated is gone states =
-    let at = live_at s q (finmap.get m q) version (present_at s m b t q version is) in
+says_by : (all : List TypedWrite) (s : Selection) (m : Entries) (b : Beliefs) (t : TypeName) (q : List ℕ) (x : Option Due) (removed : Bool) (stated : Option Holding) → finmap.get (offer Delta t s m b) q ≡ x → removed ≡ option_map_or is_removal x false
+    → stated ≡ option_or (cond (option_map_or is_statement x false) (live m q) None) None → Says (IsAt Delta all t q) x removed stated
+says_by all s m b t q None removed stated is gone states = (states, gone)
+says_by all s m b t q (Some (Stated version)) removed stated is gone states =
+    let at = live_at s q (finmap.get m q) version (stated_present Delta t s m b q version is) in
     (at.1, states ∙ ap (λ o. option_or o None) at.2, at.3)
-says_by s m b t q (Some Removed) removed stated is gone states = (states, gone)
+says_by all s m b t q (Some Removed) removed stated is gone states = (states, gone)
 
 pub response_says : (all : List TypedWrite) (replica : ℕ) (t : TypeName) (h : Holdings) (s : Selection) (b : Beliefs) (number : ℕ) (q : List ℕ) → AllKnown all t h.entries
-    → let o : Offer = offer Delta t s h.entries b in Says (finmap.get o q) (is_removed_in (response replica t h o number) q) (finmap.get (stated_in t (response replica t h o number)) q)
+    → let o : Offer = offer Delta t s h.entries b in Says (IsAt Delta all t q) (finmap.get o q) (is_removed_in t (drafts.Delta (response replica t h o number)) q) (finmap.get (stated_in t (drafts.Delta (response replica t h o number))) q)
 response_says all replica t h s b number q known =
     let o : Offer = offer Delta t s h.entries b in
-    says_by s h.entries b t q (finmap.get o q) (is_removed_in (response replica t h o number) q) (finmap.get (stated_in t (response replica t h o number)) q) refl (removed_there replica t h o number q)
+    says_by all s h.entries b t q (finmap.get o q) (is_removed_in t (drafts.Delta (response replica t h o number)) q) (finmap.get (stated_in t (drafts.Delta (response replica t h o number))) q) refl (removed_there replica t h o number q)
     (stated_there all replica t h o number q known)
 
 only_live : (b : Bool) (l : Option Holding) (h : Holding) → option_or (cond b l None) None ≡ Some h → l ≡ Some h
@@ -197,15 +207,15 @@ only_live true (Some x) h is = is
 only_live false l h is = absurd cc
 
 -- what is live was made
-pub live_made : (all : List TypedWrite) (t : TypeName) (m : Entries) (q : List ℕ) (h : Holding) (o : Option StampedWrite) → finmap.get m q ≡ o → AllKnown all t m → option_and_then holding_of o ≡ Some h → IsMade all t q h
+pub live_made : (all : List TypedWrite) (t : TypeName) (m : Entries) (q : List ℕ) (h : Holding) (o : Option StampedWrite) → finmap.get m q ≡ o → AllKnown all t m → option_and_then holding_of o ≡ Some h → IsMade Delta all t q h
 live_made all t m q h None has known is = absurd cc
 live_made all t m q h (Some w) has known is = let of = known q w has in (w, of.made, of.named, is)
 
 pub response_made : (all : List TypedWrite) (replica : ℕ) (t : TypeName) (h : Holdings) (o : Offer) (number : ℕ) (q : List ℕ) (x : Holding) → AllKnown all t h.entries
-    → finmap.get (stated_in t (response replica t h o number)) q ≡ Some x → IsMade all t q x
+    → finmap.get (stated_in t (drafts.Delta (response replica t h o number))) q ≡ Some x → IsMade Delta all t q x
 response_made all replica t h o number q x known is =
     live_made all t h.entries q x (finmap.get h.entries q) refl known (only_live (option_map_or is_statement (finmap.get o q) false) (live h.entries q) x (sym (stated_there all replica t h o number q known) ∙ is))
 
 -- what is stated is reached
-pub stated_is_reached : (s : Selection) (m : Entries) (b : Beliefs) (t : TypeName) (q version : List ℕ) → finmap.get (offer Delta t s m b) q ≡ Some (Stated version) → reaches s q ≡ true
-stated_is_reached s m b t q version is = (live_at s q (finmap.get m q) version (present_at s m b t q version is)).0
+pub stated_is_reached : (v : VariantName) (t : TypeName) (s : Selection) (m : Entries) (b : Beliefs) (q version : List ℕ) → finmap.get (offer v t s m b) q ≡ Some (Stated version) → reaches s q ≡ true
+stated_is_reached v t s m b q version is = (live_at s q (finmap.get m q) version (stated_present v t s m b q version is)).0

@@ -308,7 +308,7 @@ polls_as Sotw c t q is = absurd (never q is)
 polls_as Delta c t q is = absurd (never q is)
 
 never_linked : (k : ClientKind) (all : List TypedWrite) (c : Client) (l : Link) (x : Stream) → k ≡ Rest → LinkedTo k all c l x → ⊥
-never_linked k all c l x is linked = (subst (λ v. LinkedTo v all c l x) is linked).1
+never_linked k all c l x is linked = let never : false ≡ true = ap has_streams (sym is) ∙ linked.1.0 in absurd cc
 
 -- so it has no link
 pub linked_never : (w : World) (all : List TypedWrite) (c : ℕ) (p : Peer) (l : Link) → Fine w all → finmap.get w.peers c ≡ Some p → p.link ≡ Some l → p.kind ≡ Rest → ⊥
@@ -320,7 +320,7 @@ polls_unlinked test w left all c r t answer x fine l linked = linked_never w all
 polled_rests : (test : Test) (all : List TypedWrite) (k : ClientKind) (answer : AnswerFate) (c : Client) (t : TypeName) (o : Option Drafted) (x : Client) → k ≡ Rest → answer_taken test answer c t o ≡ Some x → ((u : TypeName) → RestsAs k all u (shelf c u))
     → (u : TypeName) → RestsAs k all u (shelf x u)
 polled_rests test all k answer c t o x is takes rests u =
-    subst (λ v. RestsAs v all u (shelf x u)) (sym is) (rests_answered test answer c t o x takes (λ s. subst (λ v. RestsAs v all s (shelf c s)) is (rests s)) u)
+    subst (λ v. RestsAs v all u (shelf x u)) (sym is) (record { within = rests_answered test answer c t o x takes (λ s. (rests s).within) u; made = λ name h held. tt })
 
 fine_rest : (test : Test) (w left : World) (all : List TypedWrite) (c r : ℕ) (t : TypeName) (answer : AnswerFate) (x : IsRestPoll test w left c r t answer) → Fine w all → Fine left all
 fine_rest test w left all c r t answer x fine =

@@ -1,5 +1,5 @@
 -- Where clients are linked, of which cluster they are and what they want, as the list of happenings tells it, is so.
-use Rattle.std.proofs.Common.{◌≡◌, ◌≢◌, inl, inr, ℕ, List, [], ◌∷◌, ◌++◌, Bool, true, false, ◌&&◌, Option, Some, None, refl, sym, ap, subst, ◌∙◌}
+use Rattle.std.proofs.Common.{◌≡◌, ◌≢◌, inl, inr, ℕ, List, [], ◌∷◌, ◌++◌, Bool, true, false, ◌&&◌, Option, Some, None, refl, sym, ap, ◌∙◌}
 use Rattle.std.specs.Prelude.{◌==◌, if◌then◌else◌, is_none, is_some, option_map}
 use Rattle.std.specs.Option.{option_and_then, option_map_or}
 use Rattle.std.specs.Ordering.{nat_cmp}
@@ -15,8 +15,6 @@ use Rattle.xds_catalogue.proofs.Lookups.{get-inserted}
 use Rattle.xds_message.specs.Messages as messages
 use Rattle.xds_message.specs.DeltaMessages.{DeltaRequest}
 use Rattle.xds_message.specs.declared.draft.Draft.{Draft}
-use Rattle.xds_message.specs.declared.draft.Draft.TheVariants as drafts
-use Rattle.xds_message.specs.Drafts.{message_of, delta_message_of}
 use Rattle.xds_core.specs.Streams as streams
 use Rattle.xds_core.specs.Streams.{Message}
 use Rattle.xds_core.specs.Events as events
@@ -25,19 +23,18 @@ use Rattle.xds_cache.specs.Shelves.{Wants, Shelf, bare, wants_of, wants_after}
 use Rattle.xds_cache.specs.Faults.{Test}
 use Rattle.xds_cache.specs.Clients as clients
 use Rattle.xds_cache.specs.Clients.{Client, shelf, with_shelf, unlinked, shelf_after, addressing}
-use Rattle.xds_cache.specs.Deliveries.{Delivery, delivered, fault_in, taking, rejecting, sotw_delivery, delta_delivery}
 use Rattle.xds_cache.specs.Sends.{is_greeted}
 use Rattle.xds_cache.specs.Rest.{forgetting, rest_changed}
-use Rattle.xds_cache.specs.Receives.{sotw_change, sotw_changed, delta_change, delta_changed, sotw_answered, delta_answered, sotw_receive, delta_receive}
+use Rattle.xds_cache.specs.Receives.{sotw_change, sotw_changed, delta_change, delta_changed}
 use Rattle.xds_world.specs.declared.event.ClientKind.{ClientKind}
 use Rattle.xds_world.specs.declared.event.ClientKind.TheVariants.{Sotw, Delta, Rest}
 use Rattle.xds_world.specs.declared.event.AnswerFate.{AnswerFate}
 use Rattle.xds_world.specs.Happenings.{Happening, Wish, Names, Edits, AddReplica, AddClient, Put, Delete, Snapshot, Merge, Connect, Change, Up, Poll, Down, Lose, RestPoll}
-use Rattle.xds_world.specs.Worlds.{Site, Link, Peer, World, empty_world, at_site, happened_at, placed, pooled, with_peer, new_peer, connected_to, opened, with_request, changed, wish_of, wish_taken, under_way, polled, up_taken, received, received_in, taken_down, down_taken, is_free, is_to_connect, poll_event, happens, after}
+use Rattle.xds_world.specs.Worlds.{Site, Link, Peer, World, empty_world, at_site, happened_at, placed, pooled, with_peer, new_peer, connected_to, opened, with_request, changed, wish_of, wish_taken, under_way, polled, up_taken, received, taken_down, down_taken, is_free, is_to_connect, poll_event, happens, after}
 use Rattle.xds_world.specs.Knows.{wished, wishing, wanted_after, wants, placing, cluster_after, cluster as cluster_of, linking, linked_after, link}
 use Rattle.xds_world.specs.Claims.{LinksAreFollowed}
 use Rattle.xds_world.proofs.Replicas.{if_then, some_is, bound_some, mapped_some, if_some, none_there, never, IsRestPoll, rest_poll_is}
-use Rattle.xds_world.proofs.LinkTakes.{received_ok, answered_ok, connected_shelf, lost_shelf}
+use Rattle.xds_world.proofs.LinkTakes.{received_wants, connected_shelf, lost_shelf}
 use Rattle.xds_world.proofs.ByKind.{received_stays, changed_ok, changed_once, wished_stays}
 use Rattle.xds_world.proofs.RestShelves.{answers_stay}
 use Rattle.xds_world.proofs.Everyone.{at_site_is}
@@ -100,34 +97,6 @@ pub record Stays (w left : World) (d : ℕ) : Type 0 where
   pub cluster : after.client.cluster ≡ before.client.cluster
   pub wants : (t : TypeName) → (shelf after.client t).wants ≡ (shelf before.client t).wants
 
-delivered_wants : (t : TypeName) (test : Test) (s : Shelf) (d : Delivery) (o : Option (List ℕ)) → (option_map_or (λ fault. rejecting s d) o (taking t s d)).wants ≡ s.wants
-delivered_wants t test s d None = refl
-delivered_wants t test s d (Some fault) = refl
-
-with_wants : (c : Client) (s : TypeName) (f : Shelf) (t : TypeName) → f.wants ≡ (shelf c s).wants → (shelf (with_shelf c s f) t).wants ≡ (shelf c t).wants
-with_wants c s f t same =
-    elim (same_type s t) [
-      | inl equal ↦ subst (λ r. (shelf (with_shelf c s f) r).wants ≡ (shelf c r).wants) equal.0 (ap (λ (x : Shelf). x.wants) (at-with_at c.shelves s f) ∙ same)
-      | inr other ↦ ap (λ (x : Shelf). x.wants) (at-with_at_other c.shelves s f t (λ e. other.0 (sym e)))
-    ]
-
-received_wants : (test : Test) (k : ClientKind) (c : Client) (d : Draft) (q : Client × Message) (t : TypeName) → received_in test k c d ≡ Some q → (shelf q.0 t).wants ≡ (shelf c t).wants
-received_wants test Sotw c (drafts.Sotw d) q t is =
-    let made = received_ok streams.Sotw (sotw_receive test c (message_of d)) q is in
-    let answer = answered_ok (sotw_answered test c (message_of d)) (addressing c (message_of d).type_url) made.0 made.1 in
-    ap (λ (x : Client × Message). (shelf x.0 t).wants) made.2 ∙ ap (λ (x : Client × messages.Request). (shelf x.0 t).wants) answer.2
-    ∙ with_wants c answer.0 (delivered answer.0 test (shelf c answer.0) (sotw_delivery answer.0 (message_of d))) t
-    (delivered_wants answer.0 test (shelf c answer.0) (sotw_delivery answer.0 (message_of d)) (fault_in answer.0 test (sotw_delivery answer.0 (message_of d))))
-received_wants test Sotw c (drafts.Delta d) q t is = absurd cc
-received_wants test Rest c d q t is = absurd (never q is)
-received_wants test Delta c (drafts.Sotw d) q t is = absurd cc
-received_wants test Delta c (drafts.Delta d) q t is =
-    let made = received_ok streams.Delta (delta_receive test c (delta_message_of d)) q is in
-    let answer = answered_ok (delta_answered test c (delta_message_of d)) (addressing c (delta_message_of d).type_url) made.0 made.1 in
-    ap (λ (x : Client × Message). (shelf x.0 t).wants) made.2 ∙ ap (λ (x : Client × DeltaRequest). (shelf x.0 t).wants) answer.2
-    ∙ with_wants c answer.0 (delivered answer.0 test (shelf c answer.0) (delta_delivery (delta_message_of d))) t
-    (delivered_wants answer.0 test (shelf c answer.0) (delta_delivery (delta_message_of d)) (fault_in answer.0 test (delta_delivery (delta_message_of d))))
-
 up_stays : (w left : World) (d : ℕ) (p : Peer) (l : Link) (ms : List Message) → finmap.get w.peers d ≡ Some p → p.link ≡ Some l → up_taken w d p l ms ≡ Some left → Stays w left d
 up_stays w left d p l [] has at_link is = absurd cc
 up_stays w left d p l (m ∷ rest) has at_link is =
@@ -185,7 +154,7 @@ down_stays test w left d p l (x ∷ rest) has at_link is =
       kind = refl;
       replica = ap (option_map (λ k. k.replica)) (sym at_link);
       cluster = (received_stays p.kind test p.client x made.0 made.1).0;
-      wants = λ t. received_wants test p.kind p.client x made.0 t made.1;
+      wants = λ t. received_wants p.kind test p.client x made.0 t made.1;
     }
 
 rest_stays : (test : Test) (w left : World) (d r : ℕ) (t : TypeName) (answer : AnswerFate) → IsRestPoll test w left d r t answer → Stays w left d

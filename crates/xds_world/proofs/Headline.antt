@@ -105,7 +105,7 @@ settled_is_exact test hs put c r p t has delta linked settled name =
     let all : List TypedWrite = made_after test empty_world [] hs in
     let all_sure = sure test hs put in
     let s = settled_link test hs c r p t put has linked settled in
-    link_shows all t p.client s.link (started p.client.cluster s.stream) s.site.core.store name (subst (λ v. LinkedTo v all p.client s.link s.stream) delta s.linked).1 all_sure.stamped.unique all_sure.ranged.stamps s.known s.quiet (owes_started p.client.cluster s.site.core.store s.stream t ∙ s.nothing) ∙ shown_is test hs c r p t name s
+    link_shows all t p.client s.link (started p.client.cluster s.stream) s.site.core.store name (subst (λ v. LinkedTo v all p.client s.link s.stream) delta s.linked).1.1 all_sure.stamped.unique all_sure.ranged.stamps s.known s.quiet (owes_started p.client.cluster s.site.core.store s.stream t ∙ s.nothing) ∙ shown_is test hs c r p t name s
 
 -- and for clients of the state of the world
 pub settled_agrees : (test : Test) (hs : List Happening) → PutResources hs → SettledAgrees test hs
@@ -113,7 +113,7 @@ settled_agrees test hs put c r p t has sotw linked settled =
     let all : List TypedWrite = made_after test empty_world [] hs in
     let all_sure = sure test hs put in
     let s = settled_link test hs c r p t put has linked settled in
-    let shows = sotw_link_shows all t p.client s.link (started p.client.cluster s.stream) s.site.core.store (subst (λ v. LinkedTo v all p.client s.link s.stream) sotw s.linked).1 all_sure.stamped.unique all_sure.ranged.stamps s.known s.quiet (owes_started p.client.cluster s.site.core.store s.stream t ∙ s.nothing) in (
+    let shows = sotw_link_shows all t p.client s.link (started p.client.cluster s.stream) s.site.core.store (subst (λ v. LinkedTo v all p.client s.link s.stream) sotw s.linked).1.1 all_sure.stamped.unique all_sure.ranged.stamps s.known s.quiet (owes_started p.client.cluster s.site.core.store s.stream t ∙ s.nothing) in (
       λ complete name. shows.exact name complete ∙ ap (option_map (λ h. h.body)) (shown_is test hs c r p t name s),
       (λ name h is. shows.agrees name h (shown_is test hs c r p t name s ∙ is), λ name unwanted. shows.within name (ap (λ w. is_wanted t w name) (sym s.wanted) ∙ unwanted)),
     )

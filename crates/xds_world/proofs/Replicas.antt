@@ -49,7 +49,7 @@ pub filtered : {X : Type 0} (b : Bool) (x : X) (xs ys both : List X) → both �
 filtered true x xs ys both is = ap (λ l. x ∷ l) is
 filtered false x xs ys both is = is
 
-filter-append : {X : Type 0} (p : X → Bool) (xs ys : List X) → filter p (xs ++ ys) ≡ filter p xs ++ filter p ys
+pub filter-append : {X : Type 0} (p : X → Bool) (xs ys : List X) → filter p (xs ++ ys) ≡ filter p xs ++ filter p ys
 filter-append p [] ys = refl
 filter-append p (x ∷ xs) ys = filtered (p x) x (filter p xs) (filter p ys) (filter p (xs ++ ys)) (filter-append p xs ys)
 

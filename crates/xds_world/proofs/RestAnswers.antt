@@ -16,6 +16,7 @@ use Rattle.xds_catalogue.specs.Holdings.{Holdings, Entries}
 use Rattle.xds_catalogue.specs.Content.{is_live, is_shown, content}
 use Rattle.xds_ledger.specs.Texts.{interest_version}
 use Rattle.xds_sessions.specs.Rest.{asked_once, whole, is_present, unless_present}
+use Rattle.xds_message.specs.declared.draft.Draft.TheVariants as drafts
 use Rattle.xds_message.specs.Drafts.{Drafted, message_of}
 use Rattle.xds_cache.specs.Shelves.{Wants, Holding, Shelf, texts, interest, is_wanted, wants_some}
 use Rattle.xds_cache.specs.Faults.{Test, stated_by}
@@ -28,7 +29,7 @@ use Rattle.xds_world.specs.Claims.{holding_of, shown_of}
 use Rattle.xds_world.proofs.Replicas.{some_is, never, both_parts}
 use Rattle.xds_world.proofs.Delivering.{AllKnown, shown_in}
 use Rattle.xds_world.proofs.Settled.{none_shown}
-use Rattle.xds_world.proofs.SotwLanes.{stated_in}
+use Rattle.xds_world.proofs.Lanes.{stated_in}
 use Rattle.xds_world.proofs.SotwDelivering.{listed, held_of, picked_is}
 use Rattle.xds_world.proofs.SotwSettled.{Shows}
 use Rattle.xds_world.proofs.SettlingSessions.{never_both}
@@ -74,7 +75,7 @@ body_by (Some x) true v = refl
 body_by (Some x) false v = refl
 
 -- the whole states the bodies that are to be shown
-pub whole_states : (all : List TypedWrite) (t : TypeName) (replica : ℕ) (h : Holdings) (s : Selection) (q : List ℕ) → AllKnown all t h.entries → bodied (finmap.get (stated_in t (whole replica t h s)) q) ≡ bodied (shown_in s h.entries q)
+pub whole_states : (all : List TypedWrite) (t : TypeName) (replica : ℕ) (h : Holdings) (s : Selection) (q : List ℕ) → AllKnown all t h.entries → bodied (finmap.get (stated_in t (drafts.Sotw (whole replica t h s))) q) ≡ bodied (shown_in s h.entries q)
 whole_states all t replica h s q known =
     ap (λ ws. bodied (finmap.get (stated_by t finmap.empty (listed ws)) q)) (sym (filter_all (content h.entries s)))
     ∙ ap bodied (picked_is all t h.entries s (λ w. true) known q) ∙ by_found (finmap.get h.entries q) refl

@@ -19,7 +19,7 @@ use Rattle.xds_world.specs.declared.event.AnswerFate.{AnswerFate}
 use Rattle.xds_world.specs.declared.event.AnswerFate.TheVariants.{Arrives, Lost}
 use Rattle.xds_world.specs.Worlds.{client_in, answer_taken}
 use Rattle.xds_world.proofs.Replicas.{some_is, never}
-use Rattle.xds_world.proofs.SotwLinks.{Rests}
+use Rattle.xds_world.proofs.Lanes.{IsWithin}
 
 -- what holds of one shelf that is put, and of all others, holds of all
 pub each_shelf : (P : TypeName → Shelf → Type 0) (c : Client) (s : TypeName) (f : Shelf) → P s f → ((t : TypeName) → P t (shelf c t)) → (t : TypeName) → P t (shelf (with_shelf c s f) t)
@@ -31,8 +31,8 @@ each_shelf P c s f here there t = by_type (same_type s t)
 
 -- ---- a change
 
-pub rests_forgotten : (c : Client) (s : TypeName) (w : Wants) → ((t : TypeName) → Rests t (shelf c t)) → (t : TypeName) → Rests t (shelf (rest_changed s w c) t)
-rests_forgotten c s w rests = each_shelf Rests c s (forgetting s w (shelf c s)) (λ name unwanted. (holds_what_is_wanted s w false finmap.empty finmap.empty (shelf c s).cache name unwanted).1) rests
+pub rests_forgotten : (c : Client) (s : TypeName) (w : Wants) → ((t : TypeName) → IsWithin t (shelf c t)) → (t : TypeName) → IsWithin t (shelf (rest_changed s w c) t)
+rests_forgotten c s w rests = each_shelf IsWithin c s (forgetting s w (shelf c s)) (λ name unwanted. (holds_what_is_wanted s w false finmap.empty finmap.empty (shelf c s).cache name unwanted).1) rests
 
 -- ---- an answer
 
@@ -47,18 +47,18 @@ answer_leaves test Lost c t o x is = inl (sym (some_is c x is))
 answer_leaves test Arrives c t None x is = inl (left_if _ _ x is)
 answer_leaves test Arrives c t (Some d) x is = inr (d, refl, refl, left_if _ (rest_answered test c t (message_of d)) x is)
 
-rests_by : (t : TypeName) (f : Shelf) (d : Delivery) (fault : Option (List ℕ)) → Rests t f → Rests t (option_map_or (λ x. f) fault (rest_taking t f d))
+rests_by : (t : TypeName) (f : Shelf) (d : Delivery) (fault : Option (List ℕ)) → IsWithin t f → IsWithin t (option_map_or (λ x. f) fault (rest_taking t f d))
 rests_by t f d None rests = λ name unwanted. (holds_what_is_wanted t f.wants d.whole d.removed (statements t d) f.cache name unwanted).0
 rests_by t f d (Some x) rests = rests
 
-pub rests_answered : (test : Test) (answer : AnswerFate) (c : Client) (t : TypeName) (o : Option Drafted) (x : Client) → answer_taken test answer c t o ≡ Some x → ((u : TypeName) → Rests u (shelf c u)) → (u : TypeName) → Rests u (shelf x u)
+pub rests_answered : (test : Test) (answer : AnswerFate) (c : Client) (t : TypeName) (o : Option Drafted) (x : Client) → answer_taken test answer c t o ≡ Some x → ((u : TypeName) → IsWithin u (shelf c u)) → (u : TypeName) → IsWithin u (shelf x u)
 rests_answered test answer c t o x is rests u = by_what (answer_leaves test answer c t o x is)
   where
-    by_what : (x ≡ c) ⊎ ((d : Drafted) × (o ≡ Some d) × (answer ≡ Arrives) × (x ≡ with_shelf c t (rest_delivered t test (shelf c t) (sotw_delivery t (message_of d))))) → Rests u (shelf x u)
-    by_what (inl same) = subst (λ y. Rests u (shelf y u)) (sym same) (rests u)
+    by_what : (x ≡ c) ⊎ ((d : Drafted) × (o ≡ Some d) × (answer ≡ Arrives) × (x ≡ with_shelf c t (rest_delivered t test (shelf c t) (sotw_delivery t (message_of d))))) → IsWithin u (shelf x u)
+    by_what (inl same) = subst (λ y. IsWithin u (shelf y u)) (sym same) (rests u)
     by_what (inr made) =
         let d : Delivery = sotw_delivery t (message_of made.0) in
-        subst (λ y. Rests u (shelf y u)) (sym made.3) (each_shelf Rests c t (rest_delivered t test (shelf c t) d) (rests_by t (shelf c t) d (fault_in t test d) (rests t)) rests u)
+        subst (λ y. IsWithin u (shelf y u)) (sym made.3) (each_shelf IsWithin c t (rest_delivered t test (shelf c t) d) (rests_by t (shelf c t) d (fault_in t test d) (rests t)) rests u)
 
 -- the client is of the same cluster and use, and wants what it wanted
 wants_by : (t : TypeName) (f : Shelf) (d : Delivery) (fault : Option (List ℕ)) → (option_map_or (λ x. f) fault (rest_taking t f d)).wants ≡ f.wants

@@ -1,7 +1,8 @@
 -- What a session has refused, and what a client will reject, states what its test refuses: what keeps this of a link.
-use Rattle.std.proofs.Common.{◌≡◌, ◌≢◌, ◌⊎◌, inl, inr, ℕ, suc, ◌+◌, ◌≤◌, List, [], ◌∷◌, ◌++◌, Bool, true, false, Option, Some, None, Ok, refl, sym, ap, subst, ◌∙◌, append-nil, not}
-use Rattle.std.specs.Prelude.{if◌then◌else◌, is_some, option_map, ⊤}
+use Rattle.std.proofs.Common.{◌≡◌, ◌≢◌, ◌⊎◌, inl, inr, ℕ, suc, ◌+◌, ◌≤◌, List, [], ◌∷◌, ◌++◌, Bool, true, false, Option, Some, None, Ok, refl, sym, ap, subst, ◌∙◌, append-nil}
+use Rattle.std.specs.Prelude.{if◌then◌else◌, is_some, option_map}
 use Rattle.std.specs.Option.{option_map_or}
+use Rattle.std.specs.List.{AllByRecursion}
 use Rattle.std.proofs.lemmas.List.Elements.{Contains-append_left}
 use Rattle.std.proofs.Math.Numerals.{suc-eq-add-one}
 use Rattle.xds_resource.specs.declared.types.TypeName.{TypeName}
@@ -10,24 +11,21 @@ use Rattle.xds_resource.specs.Stamps.{max_counter}
 use Rattle.xds_resource.specs.PerType.{at}
 use Rattle.xds_resource.proofs.TypesApart.{same_type, is_same_type-same, at-with_at, at-with_at_other, at-each}
 use Rattle.xds_interest.specs.Touches.{Touch}
-use Rattle.xds_message.specs.Messages as messages
 use Rattle.xds_message.specs.declared.draft.Draft.{Draft}
 use Rattle.xds_message.specs.DraftTexts.{kind_of}
 use Rattle.xds_ledger.specs.declared.outcome.Outcome.{Outcome}
 use Rattle.xds_ledger.specs.declared.variant.VariantName.{VariantName}
-use Rattle.xds_ledger.specs.declared.variant.VariantName.TheVariants as variants
 use Rattle.xds_ledger.specs.Offers.{Offer}
 use Rattle.xds_ledger.specs.Ledgers.{Account, settled, answers, answered}
 use Rattle.xds_ledger.specs.Believing.{Sent, touched_since}
 use Rattle.xds_ledger.specs.Sessions as sessions
 use Rattle.xds_ledger.specs.Sessions.{Session, Answer, Names, unopened, is_stale, taken, send, sotw_names, delta_names}
 use Rattle.xds_ledger.specs.Laws.{with_sent}
-use Rattle.xds_sessions.specs.DeltaPolls.{mention, answer_in}
 use Rattle.xds_core.specs.Stores.{Store}
 use Rattle.xds_core.specs.Streams as streams
-use Rattle.xds_core.specs.Streams.{Stream, Message, opening, session_after, requested, polled_first, response_of}
-use Rattle.xds_cache.specs.Shelves.{wants_some}
+use Rattle.xds_core.specs.Streams.{Stream, Message, opening, variant_of, session_after, requested, polled_first, response_of}
 use Rattle.xds_cache.specs.Faults.{Test}
+use Rattle.xds_cache.specs.Deliveries.{fault_in}
 use Rattle.xds_cache.specs.Clients.{Client, shelf, is_sent}
 use Rattle.xds_cache.specs.Sends.{sotw_first, delta_first}
 use Rattle.xds_world.specs.declared.event.ClientKind.{ClientKind}
@@ -38,24 +36,21 @@ use Rattle.xds_world.specs.Knows.{TypedWrite}
 use Rattle.xds_world.specs.Claims.{asks_for}
 use Rattle.xds_world.proofs.Replicas.{some_is, mapped_some, never}
 use Rattle.xds_world.proofs.Delivering.{AllKnown}
-use Rattle.xds_world.proofs.Firsts.{firsts, firsts_by}
-use Rattle.xds_world.proofs.Folding as deltas
-use Rattle.xds_world.proofs.SotwFolding as sotws
-use Rattle.xds_world.proofs.Queues as queues
-use Rattle.xds_world.proofs.Queues.{lane_down, lane_down-append, nonces_differ, started}
+use Rattle.xds_world.proofs.Firsts.{all_firsts}
+use Rattle.xds_world.proofs.Folding.{names_of, rejects_in, answer_of, after_request, touched_by, sending_folded}
+use Rattle.xds_world.proofs.Lanes.{delivery, answered_quiet, HasAnswer}
+use Rattle.xds_world.proofs.Queues.{lane_up, lane_down, lane_down-append, none_answers, Linked, started}
 use Rattle.xds_world.proofs.Starting.{started_decided}
-use Rattle.xds_world.proofs.SotwLinks as links
-use Rattle.xds_world.proofs.LinkSteps.{IsSent, poll_sent, poll_quiet, sending_facts, due_as, room_is}
-use Rattle.xds_world.proofs.LinkSteps as steps
-use Rattle.xds_world.proofs.ByKind.{LinkedAs, LinkedTo, none_brought, wished_is, rest_wished}
-use Rattle.xds_world.proofs.SettlingSessions.{HasAnswer, answered_quiet}
-use Rattle.xds_world.proofs.SettlingSteps.{ahead, ahead_more, up_home, spoken, speaks, delta_folded, sotw_ahead, one_lane, last_one, first_down, answer_asks, down_answers}
-use Rattle.xds_world.proofs.SettlingFaults.{IsBlamed, fault_at, sent_blamed}
+use Rattle.xds_world.proofs.LinkSteps.{IsSent, poll_sent, poll_quiet, sending_facts, due_as, room_is, kind_is, draft_is}
+use Rattle.xds_world.proofs.LinkTakes.{one_down, spoken}
+use Rattle.xds_world.proofs.ByKind.{LinkedTo, none_brought, wished_is, rest_wished}
+use Rattle.xds_world.proofs.SettlingSteps.{ahead, ahead_more, up_home, first_down, answer_asks, folded_ahead, down_answers}
+use Rattle.xds_world.proofs.SettlingFaults.{IsBlamed, sent_blamed}
 
 -- of a session, and the responses of its type that are under way: what was refused is to be blamed, and so is what will be
 pub record IsFair (all : List TypedWrite) (test : Test) (t : TypeName) (a : Session) (downs : List Draft) : Type 0 where
   pub refused : (o : Offer) → a.account.refused ≡ Some o → IsBlamed all test t o
-  pub awaits : (sent : Sent) (d : Draft) → a.account.sent ≡ Some sent → downs ≡ d ∷ [] → is_some (fault_at test t d) ≡ true → IsBlamed all test t sent.offer
+  pub awaits : (sent : Sent) (d : Draft) → a.account.sent ≡ Some sent → downs ≡ d ∷ [] → is_some (fault_in t test (delivery t d)) ≡ true → IsBlamed all test t sent.offer
 
 blamed_more : (all more : List TypedWrite) (test : Test) (t : TypeName) (o : Offer) → IsBlamed all test t o → IsBlamed (all ++ more) test t o
 blamed_more all more test t o is =
@@ -87,22 +82,8 @@ softer_taken v t s answer names accepts =
     subst (λ b. Softer s.account (settled v t s.account answer.nonce b)) (sym accepts) (softer_settled v t s.account (answers s.account answer.nonce) s.account.sent) in
     (soft.0, λ sent is. let made = mapped_some (λ x. touched_since x names.touched) (settled v t s.account answer.nonce answer.rejects).sent sent is in let was = soft.1 made.0 made.1 in (was.0, was.1, ap (λ x. x.offer) made.2 ∙ was.2))
 
-softer_take : (b : Bool) (s x : Session) → Softer s.account x.account → Softer s.account (if b then x else s).account
-softer_take true s x soft = soft
-softer_take false s x soft = softer_itself s.account
-
--- whether a request rejects a response
-abbrev pub rejects_in : Message → Bool
-rejects_in (streams.Sotw m) = is_some m.error_detail
-rejects_in (streams.Delta m) = is_some m.error_detail
-
 softer_after : (t : TypeName) (s : Session) (m : Message) → rejects_in m ≡ false → Softer s.account (session_after t s m).account
-softer_after t s (streams.Sotw m) accepts =
-    softer_take (not (is_stale s m.response_nonce)) s (taken variants.StateOfTheWorld t s (record { nonce = m.response_nonce; rejects = is_some m.error_detail }) (sotw_names t s.asked m.resource_names))
-    (softer_taken variants.StateOfTheWorld t s (record { nonce = m.response_nonce; rejects = is_some m.error_detail }) (sotw_names t s.asked m.resource_names) accepts)
-softer_after t s (streams.Delta m) accepts =
-    softer_take (not (is_stale s m.response_nonce)) s (taken variants.Delta t s (answer_in m) (delta_names t s.asked (mention m) m.initial_resource_versions))
-    (softer_taken variants.Delta t s (answer_in m) (delta_names t s.asked (mention m) m.initial_resource_versions) accepts)
+softer_after t s m accepts = after_request (λ x. Softer s.account x.account) t s m (softer_taken (variant_of m) t s (answer_of m) (names_of t s.asked m) accepts) (softer_itself s.account)
 
 fair_soft : (all : List TypedWrite) (test : Test) (t : TypeName) (a b : Session) (downs : List Draft) → Softer a.account b.account → IsFair all test t a downs → IsFair all test t b downs
 fair_soft all test t a b downs soft fair = record {
@@ -133,8 +114,8 @@ FairOn all test l x = (cluster : List ℕ) → FairAt all test l (started cluste
 fair_as : (all : List TypedWrite) (test : Test) (l : Link) (x : Stream) (v : VariantName) → x.variant ≡ Some v → FairOn all test l x → FairAt all test l x
 fair_as all test l x v decided fair = subst (FairAt all test l) (started_decided [] x v decided) (fair [])
 
-linked_as : (k : ClientKind) (all : List TypedWrite) (c : Client) (l : Link) (x : Stream) (v : VariantName) → x.variant ≡ Some v → LinkedTo k all c l x → LinkedAs k all c l x
-linked_as k all c l x v decided linked = subst (LinkedAs k all c l) (started_decided c.cluster x v decided) linked.1
+linked_as : (k : ClientKind) (all : List TypedWrite) (c : Client) (l : Link) (x : Stream) (v : VariantName) → x.variant ≡ Some v → LinkedTo k all c l x → Linked (spoken k) all c l x
+linked_as k all c l x v decided linked = subst (Linked (spoken k) all c l) (started_decided c.cluster x v decided) linked.1.1
 
 pub fair_up : (k : ClientKind) (all : List TypedWrite) (test : Test) (c : Client) (l : Link) (x : Stream) (m : Message) (rest : List Message) (z : Outcome × Stream) → l.up ≡ m ∷ rest → requested x m ≡ Ok z → LinkedTo k all c l x → FairOn all test l x
     → FairOn all test (record l { up = rest }) z.1
@@ -160,28 +141,11 @@ fair_changed Delta all test p l x t (Edits subscribe unsubscribe) q is fair =
 -- ---- the start of a stream
 
 abbrev AllAccept : List Message → Type 0
-AllAccept [] = ⊤
-AllAccept (m ∷ ms) = (rejects_in m ≡ false) × AllAccept ms
-
-sotw_by : (c : Client) (greeted : Bool) (s : TypeName) (ss : List TypeName) (some : Bool) → ((g : Bool) → AllAccept (firsts streams.Sotw (sotw_first c) c g ss)) → AllAccept (firsts_by streams.Sotw (sotw_first c) c some greeted s ss)
-sotw_by c greeted s ss true rest = (refl, rest true)
-sotw_by c greeted s ss false rest = rest greeted
-
-sotw_accept : (c : Client) (greeted : Bool) (ts : List TypeName) → AllAccept (firsts streams.Sotw (sotw_first c) c greeted ts)
-sotw_accept c greeted [] = tt
-sotw_accept c greeted (s ∷ ss) = sotw_by c greeted s ss (wants_some (shelf c s).wants) (λ g. sotw_accept c g ss)
-
-delta_by : (c : Client) (greeted : Bool) (s : TypeName) (ss : List TypeName) (some : Bool) → ((g : Bool) → AllAccept (firsts streams.Delta (delta_first c) c g ss)) → AllAccept (firsts_by streams.Delta (delta_first c) c some greeted s ss)
-delta_by c greeted s ss true rest = (refl, rest true)
-delta_by c greeted s ss false rest = rest greeted
-
-delta_accept : (c : Client) (greeted : Bool) (ts : List TypeName) → AllAccept (firsts streams.Delta (delta_first c) c greeted ts)
-delta_accept c greeted [] = tt
-delta_accept c greeted (s ∷ ss) = delta_by c greeted s ss (wants_some (shelf c s).wants) (λ g. delta_accept c g ss)
+AllAccept ms = AllByRecursion (λ m. rejects_in m ≡ false) ms
 
 opening_accepts : (k : ClientKind) (c : Client) → AllAccept (opening_requests k c)
-opening_accepts Sotw c = sotw_accept c false types
-opening_accepts Delta c = delta_accept c false types
+opening_accepts Sotw c = all_firsts streams.Sotw (sotw_first c) c (λ m. rejects_in m ≡ false) (λ t g. refl) false types
+opening_accepts Delta c = all_firsts streams.Delta (delta_first c) c (λ m. rejects_in m ≡ false) (λ t g. refl) false types
 opening_accepts Rest c = tt
 
 fair_requests : (all : List TypedWrite) (test : Test) (t : TypeName) (s : Session) (ms : List Message) (downs : List Draft) → AllAccept ms → IsFair all test t s downs → IsFair all test t (ahead t s ms) downs
@@ -196,35 +160,17 @@ fair_opened k all test c r n cluster t =
 
 -- ---- a poll
 
-sotw_none_answers : (count : ℕ) (ms : List messages.Request) → suc count ≤ max_counter → links.AllNumbered count ms → sotws.NoneAnswers (suc count) ms
-sotw_none_answers count [] within all = tt
-sotw_none_answers count (m ∷ ms) within all = (nonces_differ count m.response_nonce within all.0, sotw_none_answers count ms within all.1)
-
 -- to send before what is under way is to send after it
-ahead_sent : (k : ClientKind) (all : List TypedWrite) (c : Client) (l : Link) (x : Stream) (t : TypeName) (o : Offer) → LinkedAs k all c l x → (at x.sessions t).account.sent ≡ None → suc x.count ≤ max_counter
+ahead_sent : (v : VariantName) (all : List TypedWrite) (c : Client) (l : Link) (x : Stream) (t : TypeName) (o : Offer) → Linked v all c l x → (at x.sessions t).account.sent ≡ None → suc x.count ≤ max_counter
     → (touched : List Touch) × (ahead t (send (at x.sessions t) o (suc x.count)) l.up ≡ with_sent (ahead t (at x.sessions t) l.up) o touched (suc x.count))
-ahead_sent Sotw all c l x t o linked none room =
+ahead_sent v all c l x t o linked none room =
     let lane = linked.lanes t in
     let s : Session = at x.sessions t in
-    let ups : List messages.Request = links.lane_up t l.up in (
-      sotws.touched_by t s ups,
-      sym (sotw_ahead t (send s o (suc x.count)) l.up linked.sotws) ∙ sotws.sending_folded t s o [] (suc x.count) ups none lane.taken (sotw_none_answers x.count ups room lane.numbered)
-          ∙ ap (λ a. with_sent a o (sotws.touched_by t s ups) (suc x.count)) (sotw_ahead t s l.up linked.sotws),
+    let ups : List Message = lane_up t l.up in (
+      touched_by t s ups,
+      sym (folded_ahead t (send s o (suc x.count)) l.up) ∙ sending_folded t s o [] (suc x.count) ups none lane.taken (none_answers x.count ups room lane.numbered)
+          ∙ ap (λ a. with_sent a o (touched_by t s ups) (suc x.count)) (folded_ahead t s l.up),
     )
-ahead_sent Delta all c l x t o linked none room =
-    let lane = linked.lanes t in
-    let s : Session = at x.sessions t in
-    let ups = queues.lane_up t l.up in (
-      deltas.touched_by t ups,
-      sym (delta_folded t (send s o (suc x.count)) l.up linked.deltas) ∙ deltas.sending_folded t s o [] (suc x.count) ups none lane.taken (queues.none_answers x.count ups room lane.numbered)
-          ∙ ap (λ a. with_sent a o (deltas.touched_by t ups) (suc x.count)) (delta_folded t s l.up linked.deltas),
-    )
-ahead_sent Rest all c l x t o linked none room = absurd linked
-
-counted_as : (k : ClientKind) (all : List TypedWrite) (c : Client) (l : Link) (x : Stream) → LinkedAs k all c l x → x.count ≤ max_counter
-counted_as Sotw all c l x linked = linked.counted
-counted_as Delta all c l x linked = linked.counted
-counted_as Rest all c l x linked = absurd linked
 
 only_one : (xs : List Draft) (d e : Draft) → xs ++ d ∷ [] ≡ e ∷ [] → d ≡ e
 only_one [] d e is = head_is d e [] [] is
@@ -250,39 +196,30 @@ fair_own v all test t replica store x l d o a touched n known due draft is fair 
       awaits = λ sent e has are at_fault.
           let same : record { offer = o; touched = touched } ≡ sent = some_is (record { offer = o; touched = touched }) sent has in
           let here : e ≡ response_of replica store x.sessions t o n v = sym (only_one (lane_down t l.down) d e are) ∙ draft in
-          subst (λ (y : Sent). IsBlamed all test t y.offer) same (sent_blamed v all test t replica store x.sessions o n known due (ap (λ y. is_some (fault_at test t y)) (sym here) ∙ at_fault));
+          subst (λ (y : Sent). IsBlamed all test t y.offer) same (sent_blamed v all test t replica store x.sessions o n known due (ap (λ y. is_some (fault_in t test (delivery t y))) (sym here) ∙ at_fault));
     })
 
-fair_poll_at : (k : ClientKind) (all : List TypedWrite) (test : Test) (replica : ℕ) (store : Store) (c : Client) (l : Link) (x y : Stream) (d : Draft) (t : TypeName) → ((s : TypeName) → AllKnown all s (at store s).entries) → (is : IsSent replica store x y d)
-    → kind_of d ≡ is.kind → ((is.kind ≡ t) × (is_same_type is.kind t ≡ true)) ⊎ ((is.kind ≢ t) × (is_same_type is.kind t ≡ false)) → LinkedAs k all c l x → FairAt all test l x
+fair_poll_at : (v : VariantName) (all : List TypedWrite) (test : Test) (replica : ℕ) (store : Store) (c : Client) (l : Link) (x y : Stream) (d : Draft) (t : TypeName) → ((s : TypeName) → AllKnown all s (at store s).entries) → (is : IsSent replica store x y d)
+    → kind_of d ≡ is.kind → ((is.kind ≡ t) × (is_same_type is.kind t ≡ true)) ⊎ ((is.kind ≢ t) × (is_same_type is.kind t ≡ false)) → Linked v all c l x → FairAt all test l x
     → IsFair all test t (ahead t (at y.sessions t) l.up) (lane_down t (l.down ++ d ∷ []))
-fair_poll_at k all test replica store c l x y d t known is kind (inl same) linked fair =
+fair_poll_at v all test replica store c l x y d t known is kind (inl same) linked fair =
     let s : TypeName = is.kind in
-    let v : VariantName = spoken k in
-    let due = due_as v c.cluster store x s is.offer (speaks k all c l x linked) is.due in
+    let due = due_as v c.cluster store x s is.offer linked.variant is.due in
     let none = (sending_facts v s (at x.sessions s) (at store s).entries is.offer due.1).1 in
-    let sent = ahead_sent k all c l x s is.offer linked none (room_is x.count is.room (counted_as k all c l x linked)) in
-    let draft : d ≡ response_of replica store x.sessions s is.offer (suc x.count) v =
-    some_is d (response_of replica store x.sessions s is.offer (suc x.count) v)
-    (is.sends ∙ ap (option_map (response_of replica store x.sessions s is.offer (x.count + 1))) due.0 ∙ ap (λ n. Some (response_of replica store x.sessions s is.offer n v)) (sym (suc-eq-add-one x.count))) in
+    let sent = ahead_sent v all c l x s is.offer linked none (room_is x.count is.room linked.counted) in
+    let draft : d ≡ response_of replica store x.sessions s is.offer (suc x.count) v = draft_is v replica store x y d is due.0 in
     let left : at y.sessions s ≡ send (at x.sessions s) is.offer (suc x.count) =
     ap (λ (z : Stream). at z.sessions s) is.left ∙ at-with_at x.sessions s (send (at x.sessions s) is.offer (x.count + 1)) ∙ ap (send (at x.sessions s) is.offer) (sym (suc-eq-add-one x.count)) in
     subst (λ r. IsFair all test r (ahead r (at y.sessions r) l.up) (lane_down r (l.down ++ d ∷ []))) same.0
     (subst (IsFair all test s (ahead s (at y.sessions s) l.up))
     (sym (lane_down-append s l.down (d ∷ []) ∙ ap (λ b. lane_down s l.down ++ (if b then d ∷ [] else [])) (ap (λ r. is_same_type r s) kind ∙ is_same_type-same s)))
     (fair_own v all test s replica store x l d is.offer (ahead s (at y.sessions s) l.up) sent.0 (suc x.count) (known s) due.1 draft (ap (λ z. ahead s z l.up) left ∙ sent.1) (fair s)))
-fair_poll_at k all test replica store c l x y d t known is kind (inr other) linked fair =
+fair_poll_at v all test replica store c l x y d t known is kind (inr other) linked fair =
     let s : TypeName = is.kind in
     let left : at y.sessions t ≡ at x.sessions t = ap (λ (z : Stream). at z.sessions t) is.left ∙ at-with_at_other x.sessions s (send (at x.sessions s) is.offer (x.count + 1)) t (λ e. other.0 (sym e)) in
     subst (λ z. IsFair all test t (ahead t z l.up) (lane_down t (l.down ++ d ∷ []))) (sym left)
     (subst (IsFair all test t (ahead t (at x.sessions t) l.up))
     (sym (lane_down-append t l.down (d ∷ []) ∙ ap (λ b. lane_down t l.down ++ (if b then d ∷ [] else [])) (ap (λ r. is_same_type r t) kind ∙ other.1) ∙ append-nil (lane_down t l.down))) (fair t))
-
-kind_sent : (replica : ℕ) (store : Store) (x y : Stream) (d : Draft) (is : IsSent replica store x y d) (o : Option VariantName) → x.variant ≡ o → kind_of d ≡ is.kind
-kind_sent replica store x y d is None none =
-    absurd (never d (sym (is.sends ∙ ap (option_map (response_of replica store x.sessions is.kind is.offer (x.count + 1))) none)))
-kind_sent replica store x y d is (Some variants.StateOfTheWorld) at_v = ap kind_of (some_is d _ (is.sends ∙ ap (option_map (response_of replica store x.sessions is.kind is.offer (x.count + 1))) at_v))
-kind_sent replica store x y d is (Some variants.Delta) at_v = ap kind_of (some_is d _ (is.sends ∙ ap (option_map (response_of replica store x.sessions is.kind is.offer (x.count + 1))) at_v))
 
 sent_decides : (replica : ℕ) (store : Store) (x y : Stream) (d : Draft) → IsSent replica store x y d → (o : Option VariantName) → x.variant ≡ o → (v : VariantName) × (x.variant ≡ Some v)
 sent_decides replica store x y d is None none = absurd (never d (sym (is.sends ∙ ap (option_map (response_of replica store x.sessions is.kind is.offer (x.count + 1))) none)))
@@ -297,11 +234,12 @@ fair_poll k all test replica store c l x y ts (Some d) known is linked fair clus
     let sent = poll_sent replica store x y ts d is in
     let v = sent_decides replica store x y d sent x.variant refl in
     subst (λ (z : Stream). IsFair all test t (ahead t (at z.sessions t) l.up) (lane_down t (l.down ++ d ∷ []))) (sym (started_decided cluster y v.0 (ap (λ (z : Stream). z.variant) sent.left ∙ v.1)))
-    (fair_poll_at k all test replica store c l x y d t known sent (kind_sent replica store x y d sent x.variant refl) (same_type sent.kind t) (linked_as k all c l x v.0 v.1 linked) (fair_as all test l x v.0 v.1 fair))
+    (fair_poll_at (spoken k) all test replica store c l x y d t known sent (ap kind_of (draft_is v.0 replica store x y d sent v.1) ∙ kind_is replica store x.sessions sent.kind sent.offer (suc x.count) v.0) (same_type sent.kind t)
+    (linked_as k all c l x v.0 v.1 linked) (fair_as all test l x v.0 v.1 fair))
 
 -- ---- a response that the client takes
 
-fair_answer : (v : VariantName) (all : List TypedWrite) (test : Test) (t : TypeName) (a b : Session) (d : Draft) (downs : List Draft) → IsFair all test t a (d ∷ []) → (h : HasAnswer v t a b) → h.rejects ≡ is_some (fault_at test t d) → IsFair all test t b downs
+fair_answer : (v : VariantName) (all : List TypedWrite) (test : Test) (t : TypeName) (a b : Session) (d : Draft) (downs : List Draft) → IsFair all test t a (d ∷ []) → (h : HasAnswer v t a b) → h.rejects ≡ is_some (fault_in t test (delivery t d)) → IsFair all test t b downs
 fair_answer v all test t a b d downs fair h rejects = record {
   refused = λ o is. by_answer h.rejects refl o (sym (ap (λ x. x.refused) h.account) ∙ is);
   awaits = λ sent e has. absurd (never sent (sym (answered_quiet v t a.account h.sent h.rejects) ∙ sym (ap (λ x. x.sent) h.account) ∙ has));
@@ -313,17 +251,16 @@ fair_answer v all test t a b d downs fair h rejects = record {
     by_answer false is o refused = absurd (never o (sym (ap (λ r. (answered v t a.account h.sent r).refused) is) ∙ refused))
 
 fair_down_at : (k : ClientKind) (all : List TypedWrite) (test : Test) (c : Client) (l : Link) (x : Stream) (d : Draft) (rest : List Draft) (q : Client × Message) (t : TypeName) (own : Bool) → l.down ≡ d ∷ rest → received_in test k c d ≡ Some q → is_same_type (kind_of d) t ≡ own
-    → LinkedAs k all c l x → FairAt all test l x → IsFair all test t (if own then session_after t (ahead t (at x.sessions t) l.up) q.1 else ahead t (at x.sessions t) l.up) (lane_down t rest)
+    → Linked (spoken k) all c l x → FairAt all test l x → IsFair all test t (if own then session_after t (ahead t (at x.sessions t) l.up) q.1 else ahead t (at x.sessions t) l.up) (lane_down t rest)
 fair_down_at k all test c l x d rest q t true down is own linked fair =
     let answer = down_answers k all test c l x d rest q t down is own linked in
-    let one = one_lane k all c l x t linked in
     let here : lane_down t l.down ≡ d ∷ lane_down t rest = first_down t d rest l.down down own in
-    let alone : lane_down t l.down ≡ d ∷ [] = here ∙ ap (λ ds. d ∷ ds) (last_one d (lane_down t rest) one.0 (sym here ∙ one.1)) in
+    let alone : lane_down t l.down ≡ d ∷ [] = here ∙ ap (λ ds. d ∷ ds) (one_down d (lane_down t rest) (linked.lanes t).down (sym here ∙ (linked.lanes t).downs_are)).1 in
     fair_answer (spoken k) all test t (ahead t (at x.sessions t) l.up) (session_after t (ahead t (at x.sessions t) l.up) q.1) d (lane_down t rest) (subst (IsFair all test t (ahead t (at x.sessions t) l.up)) alone (fair t)) answer.0 answer.1
 fair_down_at k all test c l x d rest q t false down is own linked fair =
     subst (IsFair all test t (ahead t (at x.sessions t) l.up)) (ap (lane_down t) down ∙ ap (λ b. if b then d ∷ lane_down t rest else lane_down t rest) own) (fair t)
 
-fair_down_as : (k : ClientKind) (all : List TypedWrite) (test : Test) (c : Client) (l : Link) (x : Stream) (d : Draft) (rest : List Draft) (q : Client × Message) → l.down ≡ d ∷ rest → received_in test k c d ≡ Some q → LinkedAs k all c l x → FairAt all test l x
+fair_down_as : (k : ClientKind) (all : List TypedWrite) (test : Test) (c : Client) (l : Link) (x : Stream) (d : Draft) (rest : List Draft) (q : Client × Message) → l.down ≡ d ∷ rest → received_in test k c d ≡ Some q → Linked (spoken k) all c l x → FairAt all test l x
     → FairAt all test (record l { up = l.up ++ q.1 ∷ []; down = rest }) x
 fair_down_as k all test c l x d rest q down is linked fair t =
     let own : Bool = is_same_type (kind_of d) t in

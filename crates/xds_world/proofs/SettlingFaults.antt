@@ -19,19 +19,15 @@ use Rattle.xds_resource.proofs.BoolsAndLists.{holds_first, holds_second}
 use Rattle.xds_interest.specs.Interests.{Selection, covers}
 use Rattle.xds_catalogue.specs.Holdings.{Holdings, Entries}
 use Rattle.xds_catalogue.specs.Content.{is_shown}
-use Rattle.xds_message.specs.declared.draft.Draft.{Draft}
-use Rattle.xds_message.specs.declared.draft.Draft.TheVariants as drafts
 use Rattle.xds_message.specs.Drafts.{message_of, delta_message_of}
 use Rattle.xds_ledger.specs.declared.variant.VariantName.{VariantName}
 use Rattle.xds_ledger.specs.declared.variant.VariantName.TheVariants as variants
 use Rattle.xds_ledger.specs.declared.entry.Due.{Due}
 use Rattle.xds_ledger.specs.declared.entry.Due.TheVariants.{Stated, Removed}
-use Rattle.xds_ledger.specs.Variants.{is_whole}
-use Rattle.xds_ledger.specs.Owed.{Beliefs, live_version, version_shown, present, is_owed, owed_of}
-use Rattle.xds_ledger.specs.Offers.{Offer, offer, stated_version}
+use Rattle.xds_ledger.specs.Owed.{Beliefs, live_version, version_shown, present}
+use Rattle.xds_ledger.specs.Offers.{Offer, offer}
 use Rattle.xds_ledger.specs.Sessions as sessions
 use Rattle.xds_ledger.specs.Sessions.{Session}
-use Rattle.xds_ledger.proofs.ByName.{offer_says_it}
 use Rattle.xds_sessions.specs.SotwPolls as sotw
 use Rattle.xds_sessions.specs.DeltaPolls as delta
 use Rattle.xds_sessions.specs.DeltaPolls.{is_statement, is_removal, names_where, resource_of as drafted_of}
@@ -42,15 +38,16 @@ use Rattle.xds_cache.specs.Faults.{Test, Stated as StatedResource, first_reason,
 use Rattle.xds_cache.specs.Deliveries.{sotw_stated, sotw_delivery, delta_delivery, fault_in}
 use Rattle.xds_world.specs.Knows.{TypedWrite}
 use Rattle.xds_world.proofs.Replicas.{if_some, if_both}
-use Rattle.xds_sessions.proofs.Stating.{present_if_stated, kept_at}
 use Rattle.xds_world.proofs.Delivering as delivering
-use Rattle.xds_world.proofs.Delivering.{IsKnown, AllKnown, canonical_is}
+pub use Rattle.xds_world.proofs.Delivering.{whole_at}
+use Rattle.xds_world.proofs.Delivering.{IsKnown, AllKnown, canonical_is, stated_present}
 use Rattle.xds_world.proofs.LinkSteps.{sending_facts}
 use Rattle.xds_world.proofs.SotwDelivering as sotw_delivering
 use Rattle.xds_world.proofs.SotwDelivering.{offered_is}
 use Rattle.xds_message.proofs.StampedWriteLemmas.{from_value-canonical}
 use Rattle.xds_ledger.proofs.SomethingOwed.{is_some_of}
-use Rattle.xds_world.proofs.SotwSteps.{one_of_both}
+use Rattle.xds_world.proofs.Lanes.{delivery}
+use Rattle.xds_world.proofs.LaneSteps.{one_of_both}
 use Rattle.xds_world.proofs.SettlingSessions.{never_both}
 
 -- ---- one resource
@@ -245,18 +242,6 @@ sotw_listed all t m s p P (e ∷ es) says known sorted found =
 
 -- ---- what an offer states is present
 
-pub whole_at : (p : Option (List ℕ)) (version : List ℕ) → option_map Stated p ≡ Some (Stated version) → p ≡ Some version
-whole_at None version is = absurd cc
-whole_at (Some v) version is = ap (option_and_then stated_version) is
-
-present_by : (v : VariantName) (t : TypeName) (s : Selection) (m : Entries) (b : Beliefs) (q version : List ℕ) (whole : Bool)
-    → (if whole then option_map Stated (present s m q) else if is_owed v t s m b q then owed_of s m b q else None) ≡ Some (Stated version) → present s m q ≡ Some version
-present_by v t s m b q version true is = whole_at (present s m q) version is
-present_by v t s m b q version false is = present_if_stated (finmap.get b q) (present s m q) version (kept_at (is_owed v t s m b q) (owed_of s m b q) version is)
-
-pub stated_present : (v : VariantName) (t : TypeName) (s : Selection) (m : Entries) (b : Beliefs) (q version : List ℕ) → finmap.get (offer v t s m b) q ≡ Some (Stated version) → present s m q ≡ Some version
-stated_present v t s m b q version is = present_by v t s m b q version (is_whole v t) (sym (offer_says_it v t s m b q) ∙ is)
-
 pub present_version : (s : Selection) (m : Entries) (q version : List ℕ) (w : StampedWrite) → finmap.get m q ≡ Some w → present s m q ≡ Some version → (covers s q w.groups ≡ true) × (is_some w.body ≡ true) × (version_of w ≡ version)
 present_version s m q version w found is =
     let shown = if_both (covers s q w.groups) (live_version w) version (sym (ap (option_and_then (version_shown s q)) found) ∙ is) in
@@ -332,17 +317,12 @@ sotw_blamed all test t replica h s b number known at_fault =
     let says = is_some_of (finmap.get o blamed.name) (listed.holds blamed.name blamed.among) in
     let states = offered_is t s h.entries b blamed.name says.0 says.1 in blamed_at variants.StateOfTheWorld all test t s h.entries b listed.names blamed states.0 (says.1 ∙ ap Some states.1)
 
--- why a client rejects a response, if it does
-abbrev pub fault_at : Test → TypeName → Draft → Option (List ℕ)
-fault_at test t (drafts.Sotw d) = fault_in t test (sotw_delivery t (message_of d))
-fault_at test t (drafts.Delta d) = fault_in t test (delta_delivery (delta_message_of d))
-
 pub sent_blamed : (v : VariantName) (all : List TypedWrite) (test : Test) (t : TypeName) (replica : ℕ) (store : Store) (ss : PerType Session) (o : Offer) (number : ℕ) → AllKnown all t (at store t).entries → sessions.sending v t (at ss t) (at store t).entries ≡ Some o
-    → is_some (fault_at test t (response_of replica store ss t o number v)) ≡ true → IsBlamed all test t o
+    → is_some (fault_in t test (delivery t (response_of replica store ss t o number v))) ≡ true → IsBlamed all test t o
 sent_blamed v all test t replica store ss o number known due at_fault =
     let same : o ≡ offer v t (at ss t).asked.interest (at store t).entries (at ss t).account.beliefs = (sending_facts v t (at ss t) (at store t).entries o due).2 in
-    subst (IsBlamed all test t) (sym same) (by_variant v (subst (λ x. is_some (fault_at test t (response_of replica store ss t x number v)) ≡ true) same at_fault))
+    subst (IsBlamed all test t) (sym same) (by_variant v (subst (λ x. is_some (fault_in t test (delivery t (response_of replica store ss t x number v))) ≡ true) same at_fault))
   where
-    by_variant : (k : VariantName) → let x = offer k t (at ss t).asked.interest (at store t).entries (at ss t).account.beliefs in is_some (fault_at test t (response_of replica store ss t x number k)) ≡ true → IsBlamed all test t x
+    by_variant : (k : VariantName) → let x = offer k t (at ss t).asked.interest (at store t).entries (at ss t).account.beliefs in is_some (fault_in t test (delivery t (response_of replica store ss t x number k))) ≡ true → IsBlamed all test t x
     by_variant variants.StateOfTheWorld is = sotw_blamed all test t replica (at store t) (at ss t).asked.interest (at ss t).account.beliefs number known is
     by_variant variants.Delta is = delta_blamed all test t replica (at store t) (at ss t).asked.interest (at ss t).account.beliefs number known is

@@ -25,12 +25,13 @@ use Rattle.xds_world.specs.Knows.{TypedWrite}
 use Rattle.xds_world.specs.Claims.{asks_for, is_quiet, is_settled, PutsAResource}
 use Rattle.xds_world.specs.Settling.{brings, polls_unless, next_on, link_in, next_to_settle, gave_nothing, takes_one, taken_now}
 use Rattle.xds_world.proofs.Replicas.{some_is, bound_some, mapped_some}
-use Rattle.xds_world.proofs.ByKind.{LinkedAs, received_stays}
-use Rattle.xds_world.proofs.Queues.{started}
+use Rattle.xds_world.proofs.ByKind.{received_stays}
+use Rattle.xds_world.proofs.LinkTakes.{received_wants, spoken}
+use Rattle.xds_world.proofs.Queues.{Linked, started}
 use Rattle.xds_world.proofs.Starting.{polled_started}
 use Rattle.xds_world.proofs.Everyone.{Fine}
-use Rattle.xds_world.proofs.SettlingSessions.{HasAnswer}
-use Rattle.xds_world.proofs.SettlingSteps.{Spot, link_at, linked_at, own_stream, at_spot, moved, at_stream, ahead, ahead_more, up_home, spoken, speaks, poll_is, among, none_more, one_more, none_behind, answer_asks, down_answers, received_wants}
+use Rattle.xds_world.proofs.Lanes.{HasAnswer}
+use Rattle.xds_world.proofs.SettlingSteps.{Spot, link_at, linked_at, own_stream, at_spot, moved, at_stream, ahead, ahead_more, up_home, poll_is, among, none_more, one_more, none_behind, answer_asks, down_answers}
 use Rattle.xds_world.proofs.EveryEvent.{polled_reply, get_put}
 
 -- ---- what is done next
@@ -160,7 +161,7 @@ poll_moved test w y all c t s up none is fine =
       cluster = refl;
       wants = refl;
       how = inr (inr
-          (elim (poll_is (spoken s.peer.kind) cluster s.site.core.replica s.site.core.store own t (x.answer, left_own) (speaks s.peer.kind all s.peer.client s.link own (linked_at w all c s fine).1) own_made) [
+          (elim (poll_is (spoken s.peer.kind) cluster s.site.core.replica s.site.core.store own t (x.answer, left_own) (linked_at w all c s fine).1.1.variant own_made) [
             | inl sent ↦
                 inl (record {
                   takes = refl;
@@ -200,7 +201,7 @@ down_spot w c s rest q = record {
 
 down_how : (test : Test) (w : World) (all : List TypedWrite) (c : ℕ) (t : TypeName) (s : Spot w c) (d : Draft) (rest : List Draft) (q : Client × Message) (own : Bool) → s.link.down ≡ d ∷ rest → received test s.peer d ≡ Some q → is_same_type (kind_of d) t ≡ own
     → taken_now c t w (Down c) ≡ (if own then 1 else 0) → ahead t (at (started q.0.cluster s.stream).sessions t) (s.link.up ++ q.1 ∷ []) ≡ (if own then session_after t (session_at w c t s) q.1 else session_at w c t s) → brings t s.link ≡ (own || among t rest)
-    → LinkedAs s.peer.kind all s.peer.client s.link (own_stream w c s)
+    → Linked (spoken s.peer.kind) all s.peer.client s.link (own_stream w c s)
     → let y = with_peer w c (taken_down s.peer s.link rest q) in
     let z = down_spot w c s rest q in
     Stays w y c t (Down c) s z ⊎ (Takes w y c t (Down c) s z ⊎ (Sends w y c t (Down c) s z ⊎ Ends w y c t (Down c) s z))
@@ -210,7 +211,7 @@ down_how test w all c t s d rest q true down is kind takes after before linked =
       takes,
       subst (HasAnswer (spoken s.peer.kind) t (session_at w c t s)) (sym after) (down_answers s.peer.kind all test s.peer.client s.link (own_stream w c s) d rest q t down is kind linked).0,
       before,
-      none_behind s.peer.kind all s.peer.client s.link (own_stream w c s) t d rest down kind linked,
+      none_behind (spoken s.peer.kind) all s.peer.client s.link (own_stream w c s) t d rest down kind linked,
       refl,
     ))
 down_how test w all c t s d rest q false down is kind takes after before linked = inl (refl, takes, after, sym before, refl)
@@ -223,7 +224,7 @@ down_by test w all c t s d rest q own down is kind fine =
     ap (λ k. ahead t (at (started k s.stream).sessions t) (s.link.up ++ q.1 ∷ [])) (received_stays s.peer.kind test s.peer.client d q is).0 ∙ ahead_more t (at (own_stream w c s).sessions t) s.link.up q.1 ∙ ap (λ b. if b then session_after t (session_at w c t s) q.1 else session_at w c t s) asks in
     let takes : taken_now c t w (Down c) ≡ (if own then 1 else 0) = ap (λ o. option_map_or (λ (l : Link). takes_one t l.down) o 0) (link_at w c s) ∙ ap (takes_one t) down ∙ ap (λ b. if b then 1 else 0) kind in
     let before : brings t s.link ≡ (own || among t rest) = ap (among t) down ∙ ap (λ b. b || among t rest) kind in
-    record { spot = down_spot w c s rest q; kind = refl; held = refl; cluster = (received_stays s.peer.kind test s.peer.client d q is).0; wants = received_wants s.peer.kind test s.peer.client d q t is; how = down_how test w all c t s d rest q own down is kind takes after before (linked_at w all c s fine).1 }
+    record { spot = down_spot w c s rest q; kind = refl; held = refl; cluster = (received_stays s.peer.kind test s.peer.client d q is).0; wants = received_wants s.peer.kind test s.peer.client d q t is; how = down_how test w all c t s d rest q own down is kind takes after before (linked_at w all c s fine).1.1 }
 
 down_moved : (test : Test) (w y : World) (all : List TypedWrite) (c : ℕ) (t : TypeName) (s : Spot w c) (ds : List Draft) → s.link.down ≡ ds → down_taken test w c s.peer s.link ds ≡ Some y → Fine w all → Moved w y c t (Down c) s
 down_moved test w y all c t s [] down is fine = absurd cc

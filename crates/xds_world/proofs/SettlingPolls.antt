@@ -13,7 +13,8 @@ use Rattle.xds_world.specs.Settling.{brings, link_in, next_to_settle, gave_nothi
 use Rattle.xds_world.proofs.Sure.{Sure, sure, sure_after}
 use Rattle.xds_world.proofs.SettlingWalks.{Walked, then_there, walked_then}
 use Rattle.xds_world.proofs.SettlingSessions.{IsReady, never_both, ready_sends_none, waits_once_sent, done_once_answered}
-use Rattle.xds_world.proofs.SettlingSteps.{Spot, spot_of, spoken}
+use Rattle.xds_world.proofs.LinkTakes.{spoken}
+use Rattle.xds_world.proofs.SettlingSteps.{Spot, spot_of}
 use Rattle.xds_world.proofs.SettlingMoves.{next_links, next_is, OneOfThree, one_of_three, puts_nothing, is_poll, session_at, held_at, Stays, Takes, Sends, Ends, Moved, next_moved}
 
 -- ---- worlds as they come

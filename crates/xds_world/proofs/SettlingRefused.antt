@@ -22,7 +22,8 @@ use Rattle.xds_world.proofs.SettlingWalks.{then_there}
 use Rattle.xds_world.proofs.SettlingSessions.{offer_now}
 use Rattle.xds_world.proofs.Queues.{Speaks}
 use Rattle.xds_world.proofs.Starting.{started_decided}
-use Rattle.xds_world.proofs.SettlingSteps.{Spot, spot_of, link_at, linked_at, own_stream, spoken, speaks}
+use Rattle.xds_world.proofs.LinkTakes.{spoken}
+use Rattle.xds_world.proofs.SettlingSteps.{Spot, spot_of, link_at, linked_at, own_stream}
 use Rattle.xds_world.proofs.SettlingMoves.{session_at, held_at, next_moved}
 use Rattle.xds_world.proofs.SettlingPolls.{IsSure, world_sure, next_there, sure_next}
 use Rattle.xds_world.proofs.SettlingEnds.{done_if_settled}
@@ -57,11 +58,11 @@ end_either y c t z all quiet sends =
     let a : Session = session_at y c t z in
     let m : Entries = held_at y c t z in
     let own : Stream = own_stream y c z in
-    let linked = (linked_at y all.1 c z all.2.fine).1 in
+    let linked = (linked_at y all.1 c z all.2.fine).1.1 in
     let parts = both_false (list_any (asks_for t) z.link.up) _ quiet in
-    let none = quiet_none z.peer.kind all.1 z.peer.client z.link own t linked (none_down t z.link.down parts.1) in
+    let none = quiet_none v all.1 z.peer.client z.link own t linked (none_down t z.link.down parts.1) in
     let here : a ≡ at own.sessions t = quiet_ahead t (at own.sessions t) z.link.up parts.0 in
-    either_by v y c t z (speaks z.peer.kind all.1 z.peer.client z.link own linked) quiet
+    either_by v y c t z linked.variant quiet
     (subst (λ (s : Session). (sessions.owes v t s m ≡ false) ⊎ (is_refused s.account (offer_now v t s m) ≡ true)) here
     (owed_or_refused v t a m a.asked.begun (is_due v t a.asked.interest m a.account) (is_refused a.account (offer_now v t a m)) refl refl refl none sends))
 

@@ -16,7 +16,7 @@ use Rattle.xds_interest.specs.Interests.{Selection}
 use Rattle.xds_interest.specs.Asked.{Asked}
 use Rattle.xds_catalogue.specs.Holdings.{Entries}
 use Rattle.xds_catalogue.proofs.Catalogues.{get-catalogue_of}
-use Rattle.xds_message.specs.Drafts.{Drafted, DraftedDelta}
+use Rattle.xds_message.specs.declared.draft.Draft.{Draft}
 use Rattle.xds_ledger.specs.declared.variant.VariantName.{VariantName}
 use Rattle.xds_ledger.specs.Owed.{version_shown, present}
 use Rattle.xds_ledger.specs.Offers.{Offer, same_offer}
@@ -31,35 +31,30 @@ use Rattle.xds_core.specs.Streams.{Stream, Message, session_after, owes_of}
 use Rattle.xds_cache.specs.Shelves.{Wants, Holding, Shelf, interest}
 use Rattle.xds_cache.specs.Faults.{Test}
 use Rattle.xds_cache.specs.Clients.{Client, shelf}
-use Rattle.xds_world.specs.declared.event.ClientKind.{ClientKind}
-use Rattle.xds_world.specs.declared.event.ClientKind.TheVariants.{Sotw, Delta, Rest}
 use Rattle.xds_world.specs.Happenings.{Happening}
-use Rattle.xds_world.specs.Worlds.{Site, Link, Peer, World, empty_world, happens, after, world}
+use Rattle.xds_world.specs.Worlds.{Site, Link, Peer, World, empty_world, under_way, happens, after, world}
 use Rattle.xds_world.specs.Knows.{TypedWrite, Knowledge, nothing_known, learned, knows, made_now, wants, cluster as cluster_of}
 use Rattle.xds_world.specs.Claims.{holding_of, shown_of, writes_of, PutResources, PutsAResource, asks_for, is_quiet, owes_nothing, is_settled}
 use Rattle.xds_world.specs.Settling.{link_in, gave_nothing, Done, IsAtEnd, SettlesWhereAllIsTaken}
 use Rattle.xds_world.proofs.Replicas.{some_is, bound_some, mapped_some, kept_start, never}
 use Rattle.xds_world.proofs.Origins.{stamped_start}
 use Rattle.xds_world.proofs.Ranges.{ranged_start, sites_known}
-use Rattle.xds_world.proofs.Lanes as lanes
-use Rattle.xds_world.proofs.SotwLanes as sotw_lanes
-use Rattle.xds_world.proofs.Queues as queues
-use Rattle.xds_world.proofs.Queues.{lane_down, Speaks}
+use Rattle.xds_world.proofs.Lanes.{Asks, Awaits}
+use Rattle.xds_world.proofs.Queues.{lane_down, Speaks, Linked}
 use Rattle.xds_world.proofs.Starting.{owes_started}
-use Rattle.xds_world.proofs.SotwLinks as links
 use Rattle.xds_world.proofs.Settled.{IsUnique, AllStamped, one_write, none_down}
-use Rattle.xds_world.proofs.Delivering.{AllKnown, shown_in}
-use Rattle.xds_world.proofs.ByKind.{LinkedAs}
+use Rattle.xds_world.proofs.Delivering.{AllKnown, shown_in, stated_present}
 use Rattle.xds_world.proofs.EveryEvent.{fine_start}
 use Rattle.xds_world.proofs.Followed.{link_is, cluster_is, wants_are, placed_of, wanted_of}
 use Rattle.xds_world.proofs.Sure.{Sure, sure as world_sure, sure_after}
 use Rattle.xds_world.proofs.SettlingWalks.{then_there}
 use Rattle.xds_world.proofs.SettlingSessions.{offer_now, never_both}
-use Rattle.xds_world.proofs.SettlingSteps.{Spot, spot_of, link_at, linked_at, own_stream, ahead, spoken, speaks, delta_folded, sotw_ahead}
+use Rattle.xds_world.proofs.LinkTakes.{spoken}
+use Rattle.xds_world.proofs.SettlingSteps.{Spot, spot_of, link_at, linked_at, own_stream, ahead, folded_ahead}
 use Rattle.xds_world.proofs.SettlingMoves.{session_at, held_at, puts_nothing, next_moved}
 use Rattle.xds_world.proofs.SettlingPolls.{three_at}
 use Rattle.xds_world.proofs.SettlingEnds.{link_settled, done_if_settled}
-use Rattle.xds_world.proofs.SettlingFaults.{IsBlamed, stated_present, present_version}
+use Rattle.xds_world.proofs.SettlingFaults.{IsBlamed, present_version}
 use Rattle.xds_world.proofs.RestPolls.{polls_start}
 use Rattle.xds_world.proofs.SettlingFair.{IsFairWorld, fair_step, fair_start}
 use Rattle.xds_world.proofs.RestAnswers.{TakesShown}
@@ -113,41 +108,25 @@ quiet_ahead t s [] none = refl
 quiet_ahead t s (m ∷ ms) none =
     let parts = or_parts (asks_for t m) (list_any (asks_for t) ms) none in ap (λ b. ahead t (if b then session_after t s m else s) ms) parts.0 ∙ quiet_ahead t s ms parts.1
 
-none_sotw : (all : List TypedWrite) (t : TypeName) (n : ℕ) (o : Option Sent) (w : Wants) (last : List ℕ) (down : Option Drafted) → [] ≡ links.listed_draft down → sotw_lanes.Awaits all t n o w last down → o ≡ None
-none_sotw all t n None w last down none is = refl
-none_sotw all t n (Some sent) w last None none is = absurd is
-none_sotw all t n (Some sent) w last (Some d) none is = absurd cc
-
-none_delta : (all : List TypedWrite) (t : TypeName) (n : ℕ) (o : Option Sent) (w : Wants) (down : Option DraftedDelta) → [] ≡ queues.listed_draft down → lanes.Awaits all t n o w down → o ≡ None
-none_delta all t n None w down none is = refl
-none_delta all t n (Some sent) w None none is = absurd is
-none_delta all t n (Some sent) w (Some d) none is = absurd cc
+none_awaited : (v : VariantName) (all : List TypedWrite) (t : TypeName) (n : ℕ) (o : Option Sent) (w : Wants) (last : List ℕ) (down : Option Draft) → [] ≡ under_way down → Awaits v all t n o w last down → o ≡ None
+none_awaited v all t n None w last down none is = refl
+none_awaited v all t n (Some sent) w last None none is = absurd is
+none_awaited v all t n (Some sent) w last (Some d) none is = absurd cc
 
 -- nothing is unanswered
-pub quiet_none : (k : ClientKind) (all : List TypedWrite) (c : Client) (l : Link) (x : Stream) (t : TypeName) → LinkedAs k all c l x → lane_down t l.down ≡ [] → (ahead t (at x.sessions t) l.up).account.sent ≡ None
-quiet_none Sotw all c l x t linked none =
+pub quiet_none : (v : VariantName) (all : List TypedWrite) (c : Client) (l : Link) (x : Stream) (t : TypeName) → Linked v all c l x → lane_down t l.down ≡ [] → (ahead t (at x.sessions t) l.up).account.sent ≡ None
+quiet_none v all c l x t linked none =
     let lane = linked.lanes t in
-    ap (λ (a : Session). a.account.sent) (sym (sotw_ahead t (at x.sessions t) l.up linked.sotws)) ∙ none_sotw all t _ _ (shelf c t).wants (shelf c t).nonce lane.down (sym none ∙ lane.downs_are) lane.abreast.awaits
-quiet_none Delta all c l x t linked none =
-    let lane = linked.lanes t in ap (λ (a : Session). a.account.sent) (sym (delta_folded t (at x.sessions t) l.up linked.deltas)) ∙ none_delta all t _ _ (shelf c t).wants lane.down (sym none ∙ lane.downs_are) lane.abreast.awaits
-quiet_none Rest all c l x t linked none = absurd linked
+    ap (λ (a : Session). a.account.sent) (sym (folded_ahead t (at x.sessions t) l.up)) ∙ none_awaited v all t _ _ (shelf c t).wants (shelf c t).nonce lane.down (sym none ∙ lane.downs_are) lane.abreast.awaits
 
 -- a session that refused something has the client's interest
-asked_sotw : (cluster : List ℕ) (t : TypeName) (s : Session) (f : Shelf) (o : Offer) → s.account.refused ≡ Some o → sotw_lanes.Asks cluster t s f → s.asked.interest ≡ interest t cluster f.wants
-asked_sotw cluster t s f o refused (inl asked) = ap (λ (a : Asked). a.interest) asked.1
-asked_sotw cluster t s f o refused (inr not_asked) = absurd (never o (sym (ap (λ (a : Session). a.account.refused) not_asked.1) ∙ refused))
+refused_asks : (v : VariantName) (cluster : List ℕ) (t : TypeName) (s : Session) (f : Shelf) (o : Offer) → s.account.refused ≡ Some o → Asks v cluster t s f → s.asked.interest ≡ interest t cluster f.wants
+refused_asks v cluster t s f o refused (inl asked) = ap (λ (a : Asked). a.interest) asked.1
+refused_asks v cluster t s f o refused (inr not_asked) = absurd (never o (sym (ap (λ (a : Session). a.account.refused) not_asked.1) ∙ refused))
 
-asked_delta : (cluster : List ℕ) (t : TypeName) (s : Session) (f : Shelf) (o : Offer) → s.account.refused ≡ Some o → lanes.Asks cluster t s f → s.asked.interest ≡ interest t cluster f.wants
-asked_delta cluster t s f o refused (inl asked) = ap (λ (a : Asked). a.interest) asked.1
-asked_delta cluster t s f o refused (inr not_asked) = absurd (never o (sym (ap (λ (a : Session). a.account.refused) not_asked.1) ∙ refused))
-
-asked_as : (k : ClientKind) (all : List TypedWrite) (c : Client) (l : Link) (x : Stream) (t : TypeName) (o : Offer) → LinkedAs k all c l x → (ahead t (at x.sessions t) l.up).account.refused ≡ Some o
-    → (ahead t (at x.sessions t) l.up).asked.interest ≡ interest t c.cluster (shelf c t).wants
-asked_as Sotw all c l x t o linked refused =
-    asked_sotw c.cluster t (ahead t (at x.sessions t) l.up) (shelf c t) o refused (subst (λ a. sotw_lanes.Asks c.cluster t a (shelf c t)) (sotw_ahead t (at x.sessions t) l.up linked.sotws) (linked.lanes t).abreast.asks)
-asked_as Delta all c l x t o linked refused =
-    asked_delta c.cluster t (ahead t (at x.sessions t) l.up) (shelf c t) o refused (subst (λ a. lanes.Asks c.cluster t a (shelf c t)) (delta_folded t (at x.sessions t) l.up linked.deltas) (linked.lanes t).abreast.asks)
-asked_as Rest all c l x t o linked refused = absurd linked
+asked_as : (v : VariantName) (all : List TypedWrite) (c : Client) (l : Link) (x : Stream) (t : TypeName) (o : Offer) → Linked v all c l x → (ahead t (at x.sessions t) l.up).account.refused ≡ Some o → (ahead t (at x.sessions t) l.up).asked.interest ≡ interest t c.cluster (shelf c t).wants
+asked_as v all c l x t o linked refused =
+    refused_asks v c.cluster t (ahead t (at x.sessions t) l.up) (shelf c t) o refused (subst (λ a. Asks v c.cluster t a (shelf c t)) (folded_ahead t (at x.sessions t) l.up) (linked.lanes t).abreast.asks)
 
 -- ---- what is refused isn't what the client is to show
 
@@ -196,16 +175,16 @@ end_settled test y c t z sound takes quiet sends =
     let a : Session = session_at y c t z in
     let m : Entries = held_at y c t z in
     let own : Stream = own_stream y c z in
-    let linked = (linked_at y all c z sure.fine).1 in
+    let linked = (linked_at y all c z sure.fine).1.1 in
     let parts = both_false (list_any (asks_for t) z.link.up) _ quiet in
-    let none = quiet_none z.peer.kind all z.peer.client z.link own t linked (none_down t z.link.down parts.1) in
+    let none = quiet_none v all z.peer.client z.link own t linked (none_down t z.link.down parts.1) in
     let here : a ≡ at own.sessions t = quiet_ahead t (at own.sessions t) z.link.up parts.0 in
     elim (owed_or_refused v t a m a.asked.begun (is_due v t a.asked.interest m a.account) (is_refused a.account (offer_now v t a m)) refl refl refl none sends) [
-      | inl nothing ↦ settled_at y c t z quiet (owes_by v t y c z (speaks z.peer.kind all z.peer.client z.link own linked) (ap (λ s. sessions.owes v t s m) (sym here) ∙ nothing))
+      | inl nothing ↦ settled_at y c t z quiet (owes_by v t y c z linked.variant (ap (λ s. sessions.owes v t s m) (sym here) ∙ nothing))
       | inr refused ↦
           (let is = refused_is (offer_now v t a m) a.account.refused refused in
           let fair = sound.3 c z.link z.stream (link_at y c z) (ap (option_and_then (λ (s : Site). finmap.get s.core.streams z.link.stream)) z.there ∙ z.opened) z.peer.client.cluster t in
-          let wanted : a.asked.interest ≡ interest_at y c t z = asked_as z.peer.kind all z.peer.client z.link own t (offer_now v t a m) linked is in
+          let wanted : a.asked.interest ≡ interest_at y c t z = asked_as v all z.peer.client z.link own t (offer_now v t a m) linked is in
           absurd (not_blamed v all test t a m sure.stamped.unique sure.ranged.stamps (sites_known y sound.0 all sure.kept sure.stamped sure.ranged z.link.replica z.site t z.there) (subst (TakesShown test t m) (sym wanted) takes) (fair.refused (offer_now v t a m) is)))
     ]
 

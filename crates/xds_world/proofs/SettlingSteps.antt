@@ -1,66 +1,49 @@
 -- What each step that settles a client of a type does to the session of the type, and to what is under way of it.
 use Rattle.std.proofs.Common.{◌≡◌, ◌≢◌, ◌⊎◌, inl, inr, ℕ, ◌+◌, List, [], ◌∷◌, ◌++◌, Bool, true, false, ◌||◌, Option, Some, None, Result, Ok, refl, sym, ap, subst, ◌∙◌, append-nil}
-use Rattle.std.specs.Prelude.{◌==◌, bytes_eq, if◌then◌else◌, is_some, option_map, length}
+use Rattle.std.specs.Prelude.{◌==◌, if◌then◌else◌, is_some, option_map}
 use Rattle.std.specs.Option.{option_and_then, option_map_or}
-use Rattle.std.specs.List.{list_any, cons_option}
+use Rattle.std.specs.List.{list_any}
 use Rattle.std.specs.FinMap as finmap
 use Rattle.std.proofs.lemmas.List.Folds.{list_any-append}
 use Rattle.std.proofs.Math.Bool.{or-true}
 use Rattle.xds_resource.specs.declared.types.TypeName.{TypeName}
 use Rattle.xds_resource.specs.declared.refusal.Refusal.{Refusal}
-use Rattle.xds_resource.specs.declared.refusal.Refusal.TheVariants.{BadMessage, NonceSpent}
-use Rattle.xds_resource.specs.Types.{row, type_of_url, is_same_type}
+use Rattle.xds_resource.specs.declared.refusal.Refusal.TheVariants.{NonceSpent}
+use Rattle.xds_resource.specs.Types.{row, is_same_type}
 use Rattle.xds_resource.specs.Stamps.{max_counter}
 use Rattle.xds_resource.specs.PerType.{PerType, at, with_at}
 use Rattle.xds_resource.proofs.TypesApart.{same_type, is_same_type-same, at-with_at, at-with_at_other, at-each}
 use Rattle.xds_resource.proofs.Refusing.{unless_once}
-use Rattle.xds_message.specs.Messages.{Request}
-use Rattle.xds_message.specs.DeltaMessages.{DeltaRequest}
 use Rattle.xds_message.specs.declared.draft.Draft.{Draft}
-use Rattle.xds_message.specs.declared.draft.Draft.TheVariants as drafts
-use Rattle.xds_message.specs.Drafts.{Drafted, DraftedDelta, message_of, delta_message_of}
 use Rattle.xds_message.specs.DraftTexts.{kind_of}
 use Rattle.xds_ledger.specs.declared.outcome.Outcome.{Outcome}
 use Rattle.xds_ledger.specs.declared.variant.VariantName.{VariantName}
-use Rattle.xds_ledger.specs.declared.variant.VariantName.TheVariants as variants
 use Rattle.xds_ledger.specs.Offers.{Offer}
 use Rattle.xds_ledger.specs.Sessions as sessions
 use Rattle.xds_ledger.specs.Sessions.{Session, unopened, send}
 use Rattle.xds_core.specs.Stores.{Store}
-use Rattle.xds_core.specs.Streams as streams
-use Rattle.xds_core.specs.Streams.{Stream, Message, url_of, variant_of, cluster_of, is_foreign, sessions_for, session_after, answered_by, answered, requested, to_send, response_of, responding, sent, polled_first, looked_at}
+use Rattle.xds_core.specs.Streams.{Stream, Message, url_of, variant_of, cluster_of, session_after, requested, to_send, response_of, responding, sent, polled_first, looked_at}
 use Rattle.xds_core.specs.Events.{Event, Reply}
 use Rattle.xds_core.specs.Steps.{Core, step, stream_step}
-use Rattle.xds_cache.specs.Shelves.{Shelf, texts}
 use Rattle.xds_cache.specs.Faults.{Test}
-use Rattle.xds_cache.specs.Clients.{Client, shelf, with_shelf}
-use Rattle.xds_cache.specs.Deliveries.{Delivery, sotw_delivery, delta_delivery, fault_in, taking, rejecting, delivered}
-use Rattle.xds_cache.specs.Sends.{failure}
+use Rattle.xds_cache.specs.Clients.{Client, shelf}
+use Rattle.xds_cache.specs.Deliveries.{fault_in}
 use Rattle.xds_world.specs.declared.event.ClientKind.{ClientKind}
-use Rattle.xds_world.specs.declared.event.ClientKind.TheVariants.{Sotw, Delta, Rest}
 use Rattle.xds_world.specs.Worlds.{Site, Link, Peer, World, recorded, at_site, with_peer, under_way, received_in, on_link}
 use Rattle.xds_world.specs.Knows.{TypedWrite}
 use Rattle.xds_world.specs.Claims.{asks_for}
 use Rattle.xds_world.specs.Settling.{link_in}
-use Rattle.xds_world.proofs.Replicas.{some_is, bound_some, ok_is, never}
-use Rattle.xds_world.proofs.Queues as queues
-use Rattle.xds_world.proofs.Queues.{lane_down, Speaks, started}
-use Rattle.xds_world.proofs.LinkSteps.{taken_by, own_sessions, due_as}
-use Rattle.xds_world.proofs.LinkTakes as takes
+use Rattle.xds_world.proofs.Replicas.{some_is, bound_some, ok_is}
+use Rattle.xds_world.proofs.Queues.{lane_up, lane_down, asks_as, AllOf, Speaks, Linked, started}
+use Rattle.xds_world.proofs.LinkSteps.{request_taken, own_sessions, due_as, kind_is}
+use Rattle.xds_world.proofs.LinkTakes.{one_down, brought, received_is, spoken}
 use Rattle.xds_world.proofs.Folding.{folded}
-use Rattle.xds_world.proofs.Lanes as lanes
-use Rattle.xds_world.proofs.SotwFolding.{folded as sotw_folded}
-use Rattle.xds_world.proofs.SotwLanes as sotw_lanes
-use Rattle.xds_world.proofs.SotwLinks as sotws
-use Rattle.xds_world.proofs.SotwSteps.{answer, delivered_parts}
-use Rattle.xds_world.proofs.ByKind.{LinkedAs, LinkedTo}
+use Rattle.xds_world.proofs.Lanes.{delivery, reply, reply_url, Abreast, HasAnswer, reply_answers}
+use Rattle.xds_world.proofs.ByKind.{LinkedTo}
 use Rattle.xds_world.proofs.Starting.{started_decided, requested_started, requested_decides, oldest_greets}
 use Rattle.xds_world.proofs.CoreSteps.{stream_step_is}
 use Rattle.xds_world.proofs.Everyone.{at_site_is, Fine}
-use Rattle.xds_world.proofs.SettlingSessions.{HasAnswer, delta_answers, sotw_answers}
-use Rattle.xds_world.proofs.SettlingFaults.{fault_at}
 use Rattle.xds_world.proofs.EveryEvent.{get_put}
-use Rattle.xds_message.proofs.StampedWriteLemmas.{type_of_url-url}
 
 -- ---- where a client is
 
@@ -154,16 +137,6 @@ pub ahead_more : (t : TypeName) (s : Session) (ms : List Message) (m : Message) 
 ahead_more t s [] m = refl
 ahead_more t s (x ∷ ms) m = ahead_more t (if asks_for t x then session_after t s x else s) ms m
 
-pub requested_is : (x : Stream) (s : TypeName) (m : Message) (z : Outcome × Stream) → url_of m ≡ (row s).url → sessions_for x m ≡ x.sessions → requested x m ≡ Ok z → z.1.sessions ≡ with_at x.sessions s (session_after s (at x.sessions s) m)
-requested_is x s m z url own is =
-    let ss : PerType Session = sessions_for x m in
-    let made = taken_by (is_foreign x m) x (variant_of m) (answered ss m) z is in
-    let answer : made.0 ≡ answered_by ss m (type_of_url (url_of m)) = unless_once (length (url_of m) == 0) BadMessage (answered_by ss m (type_of_url (url_of m))) made.0 made.1 in
-    ap (λ (y : Stream). y.sessions) made.2 ∙ ap (λ (a : Outcome × PerType Session). a.1) (answer ∙ (λ i. answered_by (own i) m ((ap type_of_url url ∙ type_of_url-url s) i)))
-
-asks_as : (s t : TypeName) (m : Message) → url_of m ≡ (row s).url → asks_for t m ≡ is_same_type s t
-asks_as s t m url = ap (λ u. bytes_eq u (row t).url) url
-
 -- a request that the replica takes leaves it
 taken_ahead : (t : TypeName) (s : TypeName) (ss : PerType Session) (m : Message) (rest : List Message) → url_of m ≡ (row s).url → ((s ≡ t) × (is_same_type s t ≡ true)) ⊎ ((s ≢ t) × (is_same_type s t ≡ false))
     → ahead t (at (with_at ss s (session_after s (at ss s) m)) t) rest ≡ ahead t (at ss t) (m ∷ rest)
@@ -173,35 +146,18 @@ taken_ahead t s ss m rest url (inl same) =
 taken_ahead t s ss m rest url (inr other) =
     ap (λ x. ahead t x rest) (at-with_at_other ss s (session_after s (at ss s) m) t (λ e. other.0 (sym e)) ∙ ap (λ b. if b then session_after t (at ss t) m else at ss t) (sym (asks_as s t m url ∙ other.1)))
 
--- the variant that a client speaks; one that polls has no stream
-abbrev pub spoken : ClientKind → VariantName
-spoken Sotw = variants.StateOfTheWorld
-spoken Delta = variants.Delta
-spoken Rest = variants.StateOfTheWorld
-
-pub speaks : (k : ClientKind) (all : List TypedWrite) (c : Client) (l : Link) (x : Stream) → LinkedAs k all c l x → Speaks (spoken k) c.cluster x
-speaks Sotw all c l x linked = linked.variant
-speaks Delta all c l x linked = linked.variant
-speaks Rest all c l x linked = absurd linked
-
--- each request is of a type of the table
-pub named_as : (k : ClientKind) (all : List TypedWrite) (c : Client) (l : Link) (x : Stream) (m : Message) (rest : List Message) → l.up ≡ m ∷ rest → LinkedAs k all c l x → (s : TypeName) × (url_of m ≡ (row s).url)
-named_as Sotw all c l x m rest up linked = let first = (subst sotws.AllSotw up linked.sotws).0 in (first.0, ap url_of first.2 ∙ first.3)
-named_as Delta all c l x m rest up linked = let first = (subst queues.AllDelta up linked.deltas).0 in (first.0, ap url_of first.2 ∙ first.3)
-named_as Rest all c l x m rest up linked = absurd linked
-
-pub up_ahead : (k : ClientKind) (all : List TypedWrite) (c : Client) (l : Link) (x : Stream) (t : TypeName) (m : Message) (rest : List Message) (z : Outcome × Stream) → l.up ≡ m ∷ rest → (x.variant ≡ None → cluster_of m ≡ c.cluster) → requested x m ≡ Ok z
-    → LinkedAs k all c l x → ahead t (at z.1.sessions t) rest ≡ ahead t (at x.sessions t) l.up
-up_ahead k all c l x t m rest z up says is linked =
-    let named = named_as k all c l x m rest up linked in
-    ap (λ ss. ahead t (at ss t) rest) (requested_is x named.0 m z named.1 (own_sessions (spoken k) c.cluster x m (speaks k all c l x linked) says) is) ∙ taken_ahead t named.0 x.sessions m rest named.1 (same_type named.0 t) ∙ ap (ahead t (at x.sessions t)) (sym up)
+pub up_ahead : (v : VariantName) (all : List TypedWrite) (c : Client) (l : Link) (x : Stream) (t : TypeName) (m : Message) (rest : List Message) (z : Outcome × Stream) → l.up ≡ m ∷ rest → (x.variant ≡ None → cluster_of m ≡ c.cluster) → requested x m ≡ Ok z
+    → Linked v all c l x → ahead t (at z.1.sessions t) rest ≡ ahead t (at x.sessions t) l.up
+up_ahead v all c l x t m rest z up says is linked =
+    let named = (subst (AllOf v) up linked.requests).0 in
+    ap (λ (y : Stream). ahead t (at y.sessions t) rest) (request_taken x named.0 m z named.2 (own_sessions v c.cluster x m linked.variant says) is) ∙ taken_ahead t named.0 x.sessions m rest named.2 (same_type named.0 t) ∙ ap (ahead t (at x.sessions t)) (sym up)
 
 -- on the replica's own stream
 pub up_home : (k : ClientKind) (all : List TypedWrite) (c : Client) (l : Link) (x : Stream) (cluster : List ℕ) (t : TypeName) (m : Message) (rest : List Message) (z : Outcome × Stream) → l.up ≡ m ∷ rest → requested x m ≡ Ok z → LinkedTo k all c l x
     → ahead t (at (started cluster z.1).sessions t) rest ≡ ahead t (at (started c.cluster x).sessions t) l.up
 up_home k all c l x cluster t m rest z up is linked =
     ap (λ (y : Stream). ahead t (at y.sessions t) rest) (started_decided cluster z.1 (variant_of m) (requested_decides x m z is))
-    ∙ up_ahead k all c l (started c.cluster x) t m rest z up (oldest_greets c x l.up m rest up linked.0) (requested_started c.cluster x m ∙ is) linked.1
+    ∙ up_ahead (spoken k) all c l (started c.cluster x) t m rest z up (oldest_greets c x l.up m rest up linked.0) (requested_started c.cluster x m ∙ is) linked.1.1
 
 -- ---- a poll
 
@@ -220,10 +176,6 @@ pub record Sent (v : VariantName) (t : TypeName) (store : Store) (x y : Stream) 
   pub draft : Draft
   pub gave : o ≡ Some draft
   pub kind : kind_of draft ≡ t
-
-kind_is : (replica : ℕ) (store : Store) (ss : PerType Session) (t : TypeName) (o : Offer) (n : ℕ) (v : VariantName) → kind_of (response_of replica store ss t o n v) ≡ t
-kind_is replica store ss t o n variants.StateOfTheWorld = refl
-kind_is replica store ss t o n variants.Delta = refl
 
 not_due : (v : VariantName) (cluster : List ℕ) (store : Store) (x : Stream) (t : TypeName) → Speaks v cluster x → to_send store x t ≡ None → sessions.sending v t (at x.sessions t) (at store t).entries ≡ None
 not_due v cluster store x t (inl fresh) none = ap (λ s. sessions.sending v t s (at store t).entries) (ap (λ p. at p t) fresh.1 ∙ at-each (unopened cluster) t)
@@ -264,12 +216,6 @@ one_more t ds o d gave kind =
     ap (λ x. among t (ds ++ under_way x)) gave ∙ list_any-append (λ e. is_same_type (kind_of e) t) ds (d ∷ [])
     ∙ ap (λ b. among t ds || (b || false)) (ap (λ s. is_same_type s t) kind ∙ is_same_type-same t) ∙ or-true (among t ds)
 
--- at most one of a type is
-pub one_lane : (k : ClientKind) (all : List TypedWrite) (c : Client) (l : Link) (x : Stream) (t : TypeName) → LinkedAs k all c l x → (o : Option Draft) × (lane_down t l.down ≡ under_way o)
-one_lane Sotw all c l x t linked = let lane = linked.lanes t in (option_map drafts.Sotw lane.down, lane.downs_are)
-one_lane Delta all c l x t linked = let lane = linked.lanes t in (option_map drafts.Delta lane.down, lane.downs_are)
-one_lane Rest all c l x t linked = absurd linked
-
 none_first : (t : TypeName) (d : Draft) (ds : List Draft) (b : Bool) → is_same_type (kind_of d) t ≡ b → (if b then d ∷ lane_down t ds else lane_down t ds) ≡ [] → (lane_down t ds ≡ [] → among t ds ≡ false) → among t (d ∷ ds) ≡ false
 none_first t d ds true is rest later = absurd cc
 none_first t d ds false is rest later = ap (λ b. b || among t ds) is ∙ later rest
@@ -278,45 +224,17 @@ no_lane : (t : TypeName) (ds : List Draft) → lane_down t ds ≡ [] → among t
 no_lane t [] none = refl
 no_lane t (d ∷ ds) none = none_first t d ds (is_same_type (kind_of d) t) refl none (no_lane t ds)
 
-pub last_one : (d : Draft) (ds : List Draft) (o : Option Draft) → d ∷ ds ≡ under_way o → ds ≡ []
-last_one d ds None is = absurd cc
-last_one d ds (Some e) is = tail_is d e ds [] is
-  where
-    tail_is : (x y : Draft) (xs ys : List Draft) → x ∷ xs ≡ y ∷ ys → xs ≡ ys
-    tail_is x y xs ys e = cc
-
-pub none_behind : (k : ClientKind) (all : List TypedWrite) (c : Client) (l : Link) (x : Stream) (t : TypeName) (d : Draft) (rest : List Draft) → l.down ≡ d ∷ rest → is_same_type (kind_of d) t ≡ true → LinkedAs k all c l x → among t rest ≡ false
-none_behind k all c l x t d rest down own linked =
-    let one = one_lane k all c l x t linked in
-    no_lane t rest (last_one d (lane_down t rest) one.0 (ap (λ b. if b then d ∷ lane_down t rest else lane_down t rest) (sym own) ∙ ap (lane_down t) (sym down) ∙ one.1))
+-- at most one of a type is
+pub none_behind : (v : VariantName) (all : List TypedWrite) (c : Client) (l : Link) (x : Stream) (t : TypeName) (d : Draft) (rest : List Draft) → l.down ≡ d ∷ rest → is_same_type (kind_of d) t ≡ true → Linked v all c l x → among t rest ≡ false
+none_behind v all c l x t d rest down own linked =
+    let lane = linked.lanes t in
+    no_lane t rest (one_down d (lane_down t rest) lane.down (ap (λ b. if b then d ∷ lane_down t rest else lane_down t rest) (sym own) ∙ ap (lane_down t) (sym down) ∙ lane.downs_are)).1
 
 -- ---- a response that the client takes
 
 -- its answer is of the same type
 pub answer_asks : (k : ClientKind) (test : Test) (c : Client) (d : Draft) (q : Client × Message) (t : TypeName) → received_in test k c d ≡ Some q → asks_for t q.1 ≡ is_same_type (kind_of d) t
-answer_asks Sotw test c d q t is = let made = sotws.received_is test c d q is in ap (λ p. asks_for t p.1) made.left ∙ ap (λ e. is_same_type (kind_of e) t) (sym made.is)
-answer_asks Delta test c d q t is = let made = takes.received_is test c d q is in ap (λ p. asks_for t p.1) made.left ∙ ap (λ e. is_same_type (kind_of e) t) (sym made.is)
-answer_asks Rest test c d q t is = absurd (never q is)
-
-sotw_down : (d : Drafted) (rest : List Draft) (down : Option Drafted) → drafts.Sotw d ∷ rest ≡ sotws.listed_draft down → down ≡ Some d
-sotw_down d rest None is = absurd cc
-sotw_down d rest (Some e) is = ap Some (sym (draft_is (head_is (drafts.Sotw d) (drafts.Sotw e) rest [] is)))
-  where
-    head_is : (x y : Draft) (xs ys : List Draft) → x ∷ xs ≡ y ∷ ys → x ≡ y
-    head_is x y xs ys e = cc
-
-    draft_is : {x y : Drafted} → drafts.Sotw x ≡ drafts.Sotw y → x ≡ y
-    draft_is e = cc
-
-delta_down : (d : DraftedDelta) (rest : List Draft) (down : Option DraftedDelta) → drafts.Delta d ∷ rest ≡ queues.listed_draft down → down ≡ Some d
-delta_down d rest None is = absurd cc
-delta_down d rest (Some e) is = ap Some (sym (draft_is (head_is (drafts.Delta d) (drafts.Delta e) rest [] is)))
-  where
-    head_is : (x y : Draft) (xs ys : List Draft) → x ∷ xs ≡ y ∷ ys → x ≡ y
-    head_is x y xs ys e = cc
-
-    draft_is : {x y : DraftedDelta} → drafts.Delta x ≡ drafts.Delta y → x ≡ y
-    draft_is e = cc
+answer_asks k test c d q t is = let s : TypeName = kind_of d in ap (λ p. asks_for t p.1) (received_is k test c d q is) ∙ asks_as s t (reply s test (shelf c s) d) (reply_url s test (shelf c s) d)
 
 pub first_down : (t : TypeName) (d : Draft) (rest ds : List Draft) → ds ≡ d ∷ rest → is_same_type (kind_of d) t ≡ true → lane_down t ds ≡ d ∷ lane_down t rest
 first_down t d rest ds is own = ap (lane_down t) is ∙ ap (λ b. if b then d ∷ lane_down t rest else lane_down t rest) own
@@ -325,80 +243,23 @@ kind_same : (s t : TypeName) → is_same_type s t ≡ true → ((s ≡ t) × (is
 kind_same s t own (inl same) = same.0
 kind_same s t own (inr other) = let never : true ≡ false = sym own ∙ other.1 in absurd cc
 
-delta_first : (t : TypeName) (s : Session) (q : DeltaRequest) (ms : List Message) (asks : Bool) → asks_for t (streams.Delta q) ≡ asks → ((k : Session) → folded t k (queues.lane_up t ms) ≡ ahead t k ms)
-    → folded t s (queues.lane_up t (streams.Delta q ∷ ms)) ≡ ahead t s (streams.Delta q ∷ ms)
-delta_first t s q ms true is later =
-    ap (λ b. folded t s (cons_option (if b then Some q else None) (queues.lane_up t ms))) is ∙ later (session_after t s (streams.Delta q)) ∙ ap (λ b. ahead t (if b then session_after t s (streams.Delta q) else s) ms) (sym is)
-delta_first t s q ms false is later = ap (λ b. folded t s (cons_option (if b then Some q else None) (queues.lane_up t ms))) is ∙ later s ∙ ap (λ b. ahead t (if b then session_after t s (streams.Delta q) else s) ms) (sym is)
+folded_by : (t : TypeName) (s : Session) (m : Message) (ms : List Message) (asks : Bool) → ((k : Session) → folded t k (lane_up t ms) ≡ ahead t k ms)
+    → folded t s (if asks then m ∷ lane_up t ms else lane_up t ms) ≡ ahead t (if asks then session_after t s m else s) ms
+folded_by t s m ms true later = later (session_after t s m)
+folded_by t s m ms false later = later s
 
-some_mapped : (o : Option (List ℕ)) → is_some (option_map failure o) ≡ is_some o
-some_mapped None = refl
-some_mapped (Some x) = refl
-
--- the session ahead of requests of one variant is as they leave it
-pub delta_folded : (t : TypeName) (s : Session) (ms : List Message) → queues.AllDelta ms → folded t s (queues.lane_up t ms) ≡ ahead t s ms
-delta_folded t s [] deltas = refl
-delta_folded t s (m ∷ ms) deltas =
-    let first = deltas.0 in
-    subst (λ x. folded t s (queues.lane_up t (x ∷ ms)) ≡ ahead t s (x ∷ ms)) (sym first.2) (delta_first t s first.1 ms (asks_for t (streams.Delta first.1)) refl (λ k. delta_folded t k ms deltas.1))
-
-sotw_first : (t : TypeName) (s : Session) (q : Request) (ms : List Message) (asks : Bool) → asks_for t (streams.Sotw q) ≡ asks → ((k : Session) → sotw_folded t k (sotws.lane_up t ms) ≡ ahead t k ms)
-    → sotw_folded t s (sotws.lane_up t (streams.Sotw q ∷ ms)) ≡ ahead t s (streams.Sotw q ∷ ms)
-sotw_first t s q ms true is later =
-    ap (λ b. sotw_folded t s (cons_option (if b then Some q else None) (sotws.lane_up t ms))) is ∙ later (session_after t s (streams.Sotw q)) ∙ ap (λ b. ahead t (if b then session_after t s (streams.Sotw q) else s) ms) (sym is)
-sotw_first t s q ms false is later = ap (λ b. sotw_folded t s (cons_option (if b then Some q else None) (sotws.lane_up t ms))) is ∙ later s ∙ ap (λ b. ahead t (if b then session_after t s (streams.Sotw q) else s) ms) (sym is)
-
-pub sotw_ahead : (t : TypeName) (s : Session) (ms : List Message) → sotws.AllSotw ms → sotw_folded t s (sotws.lane_up t ms) ≡ ahead t s ms
-sotw_ahead t s [] all = refl
-sotw_ahead t s (m ∷ ms) all =
-    let first = all.0 in subst (λ x. sotw_folded t s (sotws.lane_up t (x ∷ ms)) ≡ ahead t s (x ∷ ms)) (sym first.2) (sotw_first t s first.1 ms (asks_for t (streams.Sotw first.1)) refl (λ k. sotw_ahead t k ms all.1))
+-- the session ahead of requests is as those of its type leave it
+pub folded_ahead : (t : TypeName) (s : Session) (ms : List Message) → folded t s (lane_up t ms) ≡ ahead t s ms
+folded_ahead t s [] = refl
+folded_ahead t s (m ∷ ms) = folded_by t s m ms (asks_for t m) (λ k. folded_ahead t k ms)
 
 -- and answers what was sent
-pub down_answers : (k : ClientKind) (all : List TypedWrite) (test : Test) (c : Client) (l : Link) (x : Stream) (d : Draft) (rest : List Draft) (q : Client × Message) (t : TypeName) → l.down ≡ d ∷ rest → received_in test k c d ≡ Some q → is_same_type (kind_of d) t ≡ true → LinkedAs k all c l x
-    → let a = ahead t (at x.sessions t) l.up in (h : HasAnswer (spoken k) t a (session_after t a q.1)) × (h.rejects ≡ is_some (fault_at test t d))
-down_answers Sotw all test c l x d rest q t down is own linked =
-    let made = sotws.received_is test c d q is in
-    let lane = linked.lanes t in
-    let e : Drafted = made.draft in
-    let a : Session = ahead t (at x.sessions t) l.up in
-    let kind : e.kind ≡ t = kind_same e.kind t (ap (λ y. is_same_type (kind_of y) t) (sym made.is) ∙ own) (same_type e.kind t) in
-    let here : lane.down ≡ Some e = sotw_down e (lane_down t rest) lane.down (ap (λ y. y ∷ lane_down t rest) (sym made.is) ∙ sym (first_down t d rest l.down down own) ∙ lane.downs_are) in
-    let abreast : sotw_lanes.Abreast c.cluster all t a (Some e) (shelf c t) =
-    subst (λ y. sotw_lanes.Abreast c.cluster all t a y (shelf c t)) here (subst (λ (y : Session). sotw_lanes.Abreast c.cluster all t y lane.down (shelf c t)) (sotw_ahead t (at x.sessions t) l.up linked.sotws) lane.abreast) in
-    let fault : Option (List ℕ) = fault_in e.kind test (sotw_delivery e.kind (message_of e)) in
-    let parts = delivered_parts e.kind (shelf c e.kind) e fault in
-    let rejects : is_some (option_map failure fault) ≡ is_some (fault_at test t d) = some_mapped fault ∙ ap (λ k. is_some (fault_in k test (sotw_delivery k (message_of e)))) kind ∙ ap (λ y. is_some (fault_at test t y)) (sym made.is) in
-    let given = sotw_answers c.cluster all t a (shelf c t) e (answer e.kind test (shelf c e.kind) e) (ap texts parts.0 ∙ ap (λ k. texts (shelf c k).wants) kind) parts.1 abreast in
-    subst (λ (p : Client × Message). (h : HasAnswer variants.StateOfTheWorld t a (session_after t a p.1)) × (h.rejects ≡ is_some (fault_at test t d))) (sym made.left) (given.0, given.1 ∙ rejects)
-down_answers Delta all test c l x d rest q t down is own linked =
-    let made = takes.received_is test c d q is in
-    let lane = linked.lanes t in
-    let e : DraftedDelta = made.draft in
-    let a : Session = ahead t (at x.sessions t) l.up in
-    let kind : e.kind ≡ t = kind_same e.kind t (ap (λ y. is_same_type (kind_of y) t) (sym made.is) ∙ own) (same_type e.kind t) in
-    let here : lane.down ≡ Some e = delta_down e (lane_down t rest) lane.down (ap (λ y. y ∷ lane_down t rest) (sym made.is) ∙ sym (first_down t d rest l.down down own) ∙ lane.downs_are) in
-    let abreast : lanes.Abreast c.cluster all t a (Some e) (shelf c t) =
-    subst (λ y. lanes.Abreast c.cluster all t a y (shelf c t)) here (subst (λ (y : Session). lanes.Abreast c.cluster all t y lane.down (shelf c t)) (delta_folded t (at x.sessions t) l.up linked.deltas) lane.abreast) in
-    let fault : Option (List ℕ) = fault_in e.kind test (delta_delivery (delta_message_of e)) in
-    let rejects : is_some (option_map failure fault) ≡ is_some (fault_at test t d) = some_mapped fault ∙ ap (λ k. is_some (fault_in k test (delta_delivery (delta_message_of e)))) kind ∙ ap (λ y. is_some (fault_at test t y)) (sym made.is) in
-    let given = delta_answers c.cluster all t a (shelf c t) e fault abreast in
-    subst (λ (p : Client × Message). (h : HasAnswer variants.Delta t a (session_after t a p.1)) × (h.rejects ≡ is_some (fault_at test t d))) (sym made.left) (given.0, given.1 ∙ rejects)
-down_answers Rest all test c l x d rest q t down is own linked = absurd linked
-
--- and the client wants what it wanted
-taken_wants : (t : TypeName) (f : Shelf) (d : Delivery) (fault : Option (List ℕ)) → (option_map_or (λ x. rejecting f d) fault (taking t f d)).wants ≡ f.wants
-taken_wants t f d None = refl
-taken_wants t f d (Some x) = refl
-
-shelf_wants : (test : Test) (c : Client) (s t : TypeName) (d : Delivery) → ((s ≡ t) × (is_same_type s t ≡ true)) ⊎ ((s ≢ t) × (is_same_type s t ≡ false)) → (shelf (with_shelf c s (delivered s test (shelf c s) d)) t).wants ≡ (shelf c t).wants
-shelf_wants test c s t d (inl same) =
-    ap (λ r. (at (with_at c.shelves s (delivered s test (shelf c s) d)) r).wants) (sym same.0) ∙ ap (λ (f : Shelf). f.wants) (at-with_at c.shelves s (delivered s test (shelf c s) d)) ∙ taken_wants s (shelf c s) d (fault_in s test d)
-    ∙ ap (λ r. (shelf c r).wants) same.0
-shelf_wants test c s t d (inr other) = ap (λ (f : Shelf). f.wants) (at-with_at_other c.shelves s (delivered s test (shelf c s) d) t (λ e. other.0 (sym e)))
-
-pub received_wants : (k : ClientKind) (test : Test) (c : Client) (d : Draft) (q : Client × Message) (t : TypeName) → received_in test k c d ≡ Some q → (shelf q.0 t).wants ≡ (shelf c t).wants
-received_wants Sotw test c d q t is =
-    let made = sotws.received_is test c d q is in ap (λ p. (shelf p.0 t).wants) made.left ∙ shelf_wants test c made.draft.kind t (sotw_delivery made.draft.kind (message_of made.draft)) (same_type made.draft.kind t)
-received_wants Delta test c d q t is =
-    let made = takes.received_is test c d q is in ap (λ p. (shelf p.0 t).wants) made.left ∙ shelf_wants test c made.draft.kind t (delta_delivery (delta_message_of made.draft)) (same_type made.draft.kind t)
-received_wants Rest test c d q t is = absurd (never q is)
+pub down_answers : (k : ClientKind) (all : List TypedWrite) (test : Test) (c : Client) (l : Link) (x : Stream) (d : Draft) (rest : List Draft) (q : Client × Message) (t : TypeName) → l.down ≡ d ∷ rest → received_in test k c d ≡ Some q → is_same_type (kind_of d) t ≡ true → Linked (spoken k) all c l x
+    → let a = ahead t (at x.sessions t) l.up in (h : HasAnswer (spoken k) t a (session_after t a q.1)) × (h.rejects ≡ is_some (fault_in t test (delivery t d)))
+down_answers k all test c l x d rest q t down is own linked =
+    let v : VariantName = spoken k in
+    subst (λ r. let a = ahead r (at x.sessions r) l.up in (h : HasAnswer v r a (session_after r a q.1)) × (h.rejects ≡ is_some (fault_in r test (delivery r d)))) (kind_same (kind_of d) t own (same_type (kind_of d) t))
+    (let s : TypeName = kind_of d in
+    let a : Session = ahead s (at x.sessions s) l.up in
+    let abreast : Abreast v c.cluster all s a (Some d) (shelf c s) = subst (λ (y : Session). Abreast v c.cluster all s y (Some d) (shelf c s)) (folded_ahead s (at x.sessions s) l.up) (brought v all c l x d rest down linked) in
+    subst (λ (p : Client × Message). (h : HasAnswer v s a (session_after s a p.1)) × (h.rejects ≡ is_some (fault_in s test (delivery s d)))) (sym (received_is k test c d q is)) (reply_answers v c.cluster all s test a (shelf c s) d abreast))

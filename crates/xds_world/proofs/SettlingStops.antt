@@ -13,9 +13,11 @@ use Rattle.xds_resource.specs.Types.{row, type_of_url}
 use Rattle.xds_resource.specs.PerType.{PerType, at}
 use Rattle.xds_message.specs.declared.draft.Draft.{Draft}
 use Rattle.xds_message.specs.declared.draft.Draft.TheVariants as drafts
-use Rattle.xds_message.specs.Drafts.{Drafted, DraftedDelta, message_of, delta_message_of}
+use Rattle.xds_message.specs.Drafts.{message_of, delta_message_of}
+use Rattle.xds_message.specs.DraftTexts.{kind_of}
 use Rattle.xds_ledger.specs.declared.outcome.Outcome.{Outcome}
 use Rattle.xds_ledger.specs.declared.variant.VariantName.{VariantName}
+use Rattle.xds_ledger.specs.declared.variant.VariantName.TheVariants as variants
 use Rattle.xds_ledger.specs.Offers.{Offer}
 use Rattle.xds_ledger.specs.Sessions.{Session}
 use Rattle.xds_core.specs.Stores.{if_done}
@@ -30,22 +32,17 @@ use Rattle.xds_cache.specs.Receives.{if_addressed, sotw_answered, delta_answered
 use Rattle.xds_world.specs.declared.event.ClientKind.{ClientKind}
 use Rattle.xds_world.specs.declared.event.ClientKind.TheVariants.{Sotw, Delta, Rest}
 use Rattle.xds_world.specs.Happenings.{Happening, Up, Poll, Down}
-use Rattle.xds_world.specs.Worlds.{Site, Link, Peer, World, recorded, answered_at, at_site, with_peer, under_way, polled, up_taken, received_in, received_by, taken_down, down_taken, on_link, happens, world}
+use Rattle.xds_world.specs.Worlds.{Site, Link, Peer, World, recorded, answered_at, at_site, with_peer, under_way, polled, up_taken, has_streams, received_in, received_by, taken_down, down_taken, on_link, happens, world}
 use Rattle.xds_world.specs.Knows.{TypedWrite}
 use Rattle.xds_world.specs.Claims.{PutResources}
 use Rattle.xds_world.specs.Settling.{brings, next_on, polls_unless, next_to_settle, lacks_number, is_spent_for, IsAtStop, StopsWhereSpent}
 use Rattle.xds_world.proofs.Replicas.{some_is}
-use Rattle.xds_world.proofs.Lanes as lanes
-use Rattle.xds_world.proofs.LaneSteps.{asks_if_sent}
+use Rattle.xds_world.proofs.Lanes.{variant_in, asks_if_sent, awaited}
 use Rattle.xds_world.proofs.Folding.{folded}
-use Rattle.xds_world.proofs.Queues as queues
-use Rattle.xds_world.proofs.Queues.{lane_down, Speaks, started}
-use Rattle.xds_world.proofs.LinkTakes.{own_first, one_down}
-use Rattle.xds_world.proofs.SotwLanes as sotw_lanes
-use Rattle.xds_world.proofs.SotwFolding.{folded as sotw_folded}
-use Rattle.xds_world.proofs.SotwLinks as sotws
+use Rattle.xds_world.proofs.Queues.{lane_up, AllOf, Speaks, Linked, started}
+use Rattle.xds_world.proofs.LinkTakes.{brought, spoken}
 use Rattle.xds_world.proofs.ByKind.{LinkedAs, LinkedTo}
-use Rattle.xds_world.proofs.SettlingSteps.{Spot, link_at, linked_at, own_stream, spoken, speaks, named_as, poll_one}
+use Rattle.xds_world.proofs.SettlingSteps.{Spot, link_at, linked_at, own_stream, poll_one}
 use Rattle.xds_world.proofs.SettlingMoves.{next_is}
 use Rattle.xds_world.proofs.SettlingPolls.{IsSure, world_sure, next_there}
 use Rattle.xds_message.proofs.StampedWriteLemmas.{type_of_url-url}
@@ -59,22 +56,21 @@ long_url Listener = refl
 long_url Route = refl
 long_url Secret = refl
 
-spoken_in : (k : ClientKind) (all : List TypedWrite) (c : Client) (l : Link) (x : Stream) (m : Message) (rest : List Message) → l.up ≡ m ∷ rest → LinkedAs k all c l x → is_same_variant (spoken k) (variant_of m) ≡ true
-spoken_in Sotw all c l x m rest up linked = let first = (subst sotws.AllSotw up linked.sotws).0 in ap (λ y. is_same_variant (spoken Sotw) (variant_of y)) first.2
-spoken_in Delta all c l x m rest up linked = let first = (subst queues.AllDelta up linked.deltas).0 in ap (λ y. is_same_variant (spoken Delta) (variant_of y)) first.2
-spoken_in Rest all c l x m rest up linked = absurd linked
+same_variant : (v : VariantName) → is_same_variant v v ≡ true
+same_variant variants.StateOfTheWorld = refl
+same_variant variants.Delta = refl
 
 own_variant : (v : VariantName) (cluster : List ℕ) (x : Stream) (m : Message) → Speaks v cluster x → is_same_variant v (variant_of m) ≡ true → is_foreign x m ≡ false
 own_variant v cluster x m (inl fresh) same = ap (λ o. option_map_or (λ k. not (is_same_variant k (variant_of m))) o false) fresh.0
 own_variant v cluster x m (inr is) same = ap (λ o. option_map_or (λ k. not (is_same_variant k (variant_of m))) o false) is ∙ ap not same
 
-takes_request : (k : ClientKind) (all : List TypedWrite) (c : Client) (l : Link) (x : Stream) (m : Message) (rest : List Message) → l.up ≡ m ∷ rest → LinkedTo k all c l x → (z : Outcome × Stream) × (requested x m ≡ Ok z)
-takes_request k all c l x m rest up linked =
+takes_request : (v : VariantName) (all : List TypedWrite) (c : Client) (l : Link) (x : Stream) (m : Message) (rest : List Message) → l.up ≡ m ∷ rest → Linked v all c l (started c.cluster x) → (z : Outcome × Stream) × (requested x m ≡ Ok z)
+takes_request v all c l x m rest up linked =
     let ss : PerType Session = sessions_for x m in
     let made : Outcome × PerType Session = answered_by ss m (type_of_url (url_of m)) in
-    let named = named_as k all c l (started c.cluster x) m rest up linked.1 in
-    let own : is_foreign x m ≡ false = own_variant (spoken k) c.cluster (started c.cluster x) m (speaks k all c l (started c.cluster x) linked.1) (spoken_in k all c l (started c.cluster x) m rest up linked.1) in
-    let long : (length (url_of m) == 0) ≡ false = ap (λ u. length u == 0) named.1 ∙ long_url named.0 in (
+    let named = (subst (AllOf v) up linked.requests).0 in
+    let own : is_foreign x m ≡ false = own_variant v c.cluster (started c.cluster x) m linked.variant (ap (is_same_variant v) named.1 ∙ same_variant v) in
+    let long : (length (url_of m) == 0) ≡ false = ap (λ u. length u == 0) named.2 ∙ long_url named.0 in (
       (made.0, record { variant = Some (variant_of m); count = x.count; sessions = made.1 }),
       (λ i. if own i then Err WrongVariant else if_done (λ p. (p.0, record { variant = Some (variant_of m); count = x.count; sessions = p.1 })) (unless_refused ((long i, BadMessage) ∷ []) made)),
     )
@@ -85,44 +81,22 @@ addressed_to : (c : Client) (t : TypeName) → c.broken ≡ false → (shelf c t
 addressed_to c t usable asked =
     (λ i. if usable i then Err NoStream else addressed_or (option_and_then (if_asked c) (type_of_url-url t i))) ∙ ap (λ b. addressed_or (if b then Some t else None)) asked
 
-not_sotw : (e : Drafted) (rest : List Draft) (down : Option DraftedDelta) → drafts.Sotw e ∷ rest ≡ queues.listed_draft down → ⊥
-not_sotw e rest None is = absurd cc
-not_sotw e rest (Some d) is = absurd cc
-
-not_delta : (e : DraftedDelta) (rest : List Draft) (down : Option Drafted) → drafts.Delta e ∷ rest ≡ sotws.listed_draft down → ⊥
-not_delta e rest None is = absurd cc
-not_delta e rest (Some d) is = absurd cc
-
-delta_takes : (all : List TypedWrite) (test : Test) (c : Client) (l : Link) (x : Stream) (d : Draft) (rest : List Draft) → l.down ≡ d ∷ rest → c.broken ≡ false → queues.Linked all c l x → (q : Client × Message) × (received_in test Delta c d ≡ Some q)
-delta_takes all test c l x (drafts.Sotw e) rest down usable linked =
-    let lane = linked.lanes e.kind in absurd (not_sotw e (lane_down e.kind rest) lane.down (sym (own_first (drafts.Sotw e) rest l.down down) ∙ lane.downs_are))
-delta_takes all test c l x (drafts.Delta e) rest down usable linked =
-    let t : TypeName = e.kind in
-    let lane = linked.lanes t in
-    let s : Session = folded t (at x.sessions t) (queues.lane_up t l.up) in
-    let here : lane.down ≡ Some e = (one_down e (lane_down t rest) lane.down (sym (own_first (drafts.Delta e) rest l.down down) ∙ lane.downs_are)).0 in
-    let sent = lanes.awaited all t s.account.nonce s.account.sent (shelf c t).wants e (subst (lanes.Awaits all t s.account.nonce s.account.sent (shelf c t).wants) here lane.abreast.awaits) in
-    let asked = (asks_if_sent c.cluster t s (shelf c t) sent.0 sent.1 lane.abreast.asks).0 in
-    let made = delta_answered test c (delta_message_of e) t in
-    ((made.0, streams.Delta made.1), ap (λ r. received_by streams.Delta (if_addressed (delta_answered test c (delta_message_of e)) r)) (addressed_to c t usable asked))
-
-sotw_takes : (all : List TypedWrite) (test : Test) (c : Client) (l : Link) (x : Stream) (d : Draft) (rest : List Draft) → l.down ≡ d ∷ rest → c.broken ≡ false → sotws.Linked all c l x → (q : Client × Message) × (received_in test Sotw c d ≡ Some q)
-sotw_takes all test c l x (drafts.Delta e) rest down usable linked =
-    let lane = linked.lanes e.kind in absurd (not_delta e (lane_down e.kind rest) lane.down (sym (own_first (drafts.Delta e) rest l.down down) ∙ lane.downs_are))
-sotw_takes all test c l x (drafts.Sotw e) rest down usable linked =
-    let t : TypeName = e.kind in
-    let lane = linked.lanes t in
-    let s : Session = sotw_folded t (at x.sessions t) (sotws.lane_up t l.up) in
-    let here : lane.down ≡ Some e = (sotws.one_down e (lane_down t rest) lane.down (sym (own_first (drafts.Sotw e) rest l.down down) ∙ lane.downs_are)).0 in
-    let sent = sotw_lanes.awaited all t s.account.nonce s.account.sent (shelf c t).wants (shelf c t).nonce e (subst (sotw_lanes.Awaits all t s.account.nonce s.account.sent (shelf c t).wants (shelf c t).nonce) here lane.abreast.awaits) in
-    let asked = (sotw_lanes.asks_if_sent c.cluster t s (shelf c t) sent.0 sent.1 lane.abreast.asks).0 in
-    let made = sotw_answered test c (message_of e) t in
-    ((made.0, streams.Sotw made.1), ap (λ r. received_by streams.Sotw (if_addressed (sotw_answered test c (message_of e)) r)) (addressed_to c t usable asked))
+takes_by : (k : ClientKind) (test : Test) (c : Client) (d : Draft) → has_streams k ≡ true → variant_in d ≡ spoken k → c.broken ≡ false → (shelf c (kind_of d)).asked ≡ true → (q : Client × Message) × (received_in test k c d ≡ Some q)
+takes_by Sotw test c (drafts.Sotw e) has speaks usable asked =
+    let made = sotw_answered test c (message_of e) e.kind in ((made.0, streams.Sotw made.1), ap (λ r. received_by streams.Sotw (if_addressed (sotw_answered test c (message_of e)) r)) (addressed_to c e.kind usable asked))
+takes_by Sotw test c (drafts.Delta e) has speaks usable asked = absurd cc
+takes_by Delta test c (drafts.Sotw e) has speaks usable asked = absurd cc
+takes_by Delta test c (drafts.Delta e) has speaks usable asked =
+    let made = delta_answered test c (delta_message_of e) e.kind in ((made.0, streams.Delta made.1), ap (λ r. received_by streams.Delta (if_addressed (delta_answered test c (delta_message_of e)) r)) (addressed_to c e.kind usable asked))
+takes_by Rest test c d has speaks usable asked = absurd cc
 
 takes_response : (k : ClientKind) (all : List TypedWrite) (test : Test) (c : Client) (l : Link) (x : Stream) (d : Draft) (rest : List Draft) → l.down ≡ d ∷ rest → c.broken ≡ false → LinkedAs k all c l x → (q : Client × Message) × (received_in test k c d ≡ Some q)
-takes_response Sotw all test c l x d rest down usable linked = sotw_takes all test c l x d rest down usable linked
-takes_response Delta all test c l x d rest down usable linked = delta_takes all test c l x d rest down usable linked
-takes_response Rest all test c l x d rest down usable linked = absurd linked
+takes_response k all test c l x d rest down usable linked =
+    let t : TypeName = kind_of d in
+    let s : Session = folded t (at x.sessions t) (lane_up t l.up) in
+    let abreast = brought (spoken k) all c l x d rest down linked.1 in
+    let sent = awaited (spoken k) all t s.account.nonce s.account.sent (shelf c t).wants (shelf c t).nonce d abreast.awaits in
+    takes_by k test c d linked.0 sent.2.speaks usable (asks_if_sent (spoken k) c.cluster t s (shelf c t) sent.0 sent.1 abreast.asks).0
 
 -- ---- what is possible at a spot
 
@@ -144,7 +118,7 @@ answers_at w c s e reply f a is_step made =
 up_happens : (test : Test) (w : World) (all : List TypedWrite) (c : ℕ) (s : Spot w c) (m : Message) (rest : List Message) → s.link.up ≡ m ∷ rest → LinkedTo s.peer.kind all s.peer.client s.link s.stream → happens test w (Up c) ≡ None → ⊥
 up_happens test w all c s m rest up linked none =
     let e : Event = events.Request s.link.stream m in
-    let taken = takes_request s.peer.kind all s.peer.client s.link s.stream m rest up linked in
+    let taken = takes_request (spoken s.peer.kind) all s.peer.client s.link s.stream m rest up linked.1.1 in
     let answer = answers_at w c s e Answered (λ k z. requested z m) taken.0 (λ k. refl) taken.1 in
     let after : Peer = record s.peer { link = Some (record s.link { up = rest }) } in
     let happened : happens test w (Up c) ≡ Some (with_peer answer.0 c after) =

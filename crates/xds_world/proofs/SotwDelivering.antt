@@ -10,16 +10,17 @@ use Rattle.xds_resource.specs.Resources.{NamedBody, value_of, resource_of}
 use Rattle.xds_resource.specs.Writes.{StampedWrite, text_cmp, version_of}
 use Rattle.xds_resource.proofs.NameMaps.{has_text, get-insert, has_text-keys, bytes_eq_tells, bytes_eq_swap}
 use Rattle.xds_resource.proofs.MadeMaps.{EachFound, each_found}
-use Rattle.xds_interest.specs.Interests.{Selection, reaches, covers}
+use Rattle.xds_interest.specs.Interests.{Selection, covers}
 use Rattle.xds_catalogue.specs.Holdings.{Holdings, Entries}
 use Rattle.xds_catalogue.specs.Content.{is_shown, content}
+use Rattle.xds_message.specs.declared.draft.Draft.TheVariants as drafts
 use Rattle.xds_ledger.specs.declared.variant.VariantName.TheVariants.{StateOfTheWorld}
 use Rattle.xds_ledger.specs.declared.entry.Entry.{Entry}
 use Rattle.xds_ledger.specs.declared.entry.Due.{Due}
 use Rattle.xds_ledger.specs.declared.entry.Due.TheVariants.{Stated, Removed}
 use Rattle.xds_ledger.specs.Variants.{is_told}
 use Rattle.xds_ledger.specs.Owed.{Beliefs, live_version, version_shown, present, owed}
-use Rattle.xds_ledger.specs.Offers.{Offer, offer, stated_version}
+use Rattle.xds_ledger.specs.Offers.{Offer, offer}
 use Rattle.xds_ledger.proofs.ByName.{offer_says_it}
 use Rattle.xds_sessions.specs.SotwPolls.{response, stated_writes}
 use Rattle.xds_cache.specs.Shelves.{Holding, Cache}
@@ -27,9 +28,9 @@ use Rattle.xds_cache.specs.Faults.{Stated as StatedResource, stated_by, and_stat
 use Rattle.xds_cache.specs.Deliveries.{sotw_stated}
 use Rattle.xds_world.specs.Knows.{TypedWrite}
 use Rattle.xds_world.proofs.Replicas.{some_is, if_both}
-use Rattle.xds_sessions.proofs.Stating.{present_if_stated}
-use Rattle.xds_world.proofs.Delivering.{IsKnown, AllKnown, canonical_is, live_at}
-use Rattle.xds_world.proofs.SotwLanes.{IsHeld, Says, stated_in}
+use Rattle.xds_world.proofs.Delivering.{IsKnown, AllKnown, canonical_is, skipped, put_on, stated_present}
+use Rattle.xds_world.proofs.ByOneName.{IsHeld, Says}
+use Rattle.xds_world.proofs.Lanes.{IsAt, stated_in, is_removed_in}
 
 -- ---- what is stated of a list of writes
 
@@ -71,16 +72,6 @@ module _ (all : List TypedWrite) (t : TypeName) (m : Entries) (s : Selection) (p
 
   abbrev behind : List (List ℕ × StampedWrite) → List StatedResource
   behind es = listed (filter p (filter (is_shown s) (map (λ e. e.1) es)))
-
-  skipped : (same has : Bool) (l old : Option Holding) → (same ≡ true → l ≡ None) → option_or (cond has l None) old ≡ option_or (cond (same || has) l None) old
-  skipped true true l old is = refl
-  skipped true false l old is = ap (λ x. option_or x old) (sym (is refl))
-  skipped false has l old is = refl
-
-  put_on : (same has : Bool) (l old : Option Holding) (h : Holding) → (same ≡ true → l ≡ Some h) → option_or (cond has l None) (cond same (Some h) old) ≡ option_or (cond (same || has) l None) old
-  put_on true true l old h is = ap (λ x. option_or x (Some h)) (is refl) ∙ ap (λ x. option_or x old) (sym (is refl))
-  put_on true false l old h is = ap (λ x. option_or x old) (sym (is refl))
-  put_on false has l old h is = refl
 
   abbrev StatesBehind : List (List ℕ × StampedWrite) → List ℕ → Type 0
   StatesBehind es q = (before : Cache) → finmap.get (stated_by t before (behind es)) q ≡ option_or (cond (has_text (map (λ e. e.0) es) q) (told_of q) None) (finmap.get before q)
@@ -124,12 +115,12 @@ module _ (all : List TypedWrite) (t : TypeName) (m : Entries) (s : Selection) (o
   offers w = is_shown s w && is_some (finmap.get o w.name)
 
   -- what the response states of a name
-  pub stated_is : (replica number : ℕ) (h : Holdings) (q : List ℕ) → h.entries ≡ m → finmap.get (stated_in t (response replica t h s o number)) q ≡ option_or (cond (is_some (finmap.get m q)) (option_and_then (λ w. held_of (offers w) w.body) (finmap.get m q)) None) None
+  pub stated_is : (replica number : ℕ) (h : Holdings) (q : List ℕ) → h.entries ≡ m → finmap.get (stated_in t (drafts.Sotw (response replica t h s o number))) q ≡ option_or (cond (is_some (finmap.get m q)) (option_and_then (λ w. held_of (offers w) w.body) (finmap.get m q)) None) None
   stated_is replica number h q same = ap (λ e. finmap.get (stated_by t finmap.empty (listed (stated_writes e s o))) q) same ∙ picked_is all t m s (λ w. is_some (finmap.get o w.name)) known q
 
   -- a write that is offered
   says_stated : (q version : List ℕ) (stated : Option Holding) (x : Option StampedWrite) → finmap.get m q ≡ x → stated ≡ option_or (cond (is_some x) (option_and_then (λ w. held_of (offers w) w.body) x) None) None
-      → option_and_then (version_shown s q) x ≡ Some version → is_some (finmap.get o q) ≡ true → IsHeld all t q version stated
+      → option_and_then (version_shown s q) x ≡ Some version → is_some (finmap.get o q) ≡ true → IsHeld (IsAt StateOfTheWorld all t q) version stated
   says_stated q version stated None found states is offered = absurd cc
   says_stated q version stated (Some w) found states is offered = by_body w.body refl
     where
@@ -139,17 +130,13 @@ module _ (all : List TypedWrite) (t : TypeName) (m : Entries) (s : Selection) (o
       shown : (covers s q w.groups ≡ true) × (live_version w ≡ Some version)
       shown = if_both (covers s q w.groups) (live_version w) version is
 
-      by_body : (b : Option (List ℕ)) → w.body ≡ b → IsHeld all t q version stated
+      by_body : (b : Option (List ℕ)) → w.body ≡ b → IsHeld (IsAt StateOfTheWorld all t q) version stated
       by_body None body = let never : None ≡ Some version = sym (ap (λ b. if is_some b then Some (version_of w) else None) body) ∙ shown.1 in absurd cc
       by_body (Some x) body = (
-        w,
         record { version = []; body = x },
-        of.made,
-        of.named,
-        some_is (version_of w) version (sym (ap (λ b. if is_some b then Some (version_of w) else None) body) ∙ shown.1),
-        body,
         states
             ∙ (λ i. option_or (held_of ((is_some (body i) && (ap (λ n. covers s n w.groups) of.named ∙ shown.0) i) && (ap (λ n. is_some (finmap.get o n)) of.named ∙ offered) i) (body i)) None),
+        (w, of.made, of.named, some_is (version_of w) version (sym (ap (λ b. if is_some b then Some (version_of w) else None) body) ∙ shown.1), body),
       )
 
   -- and one that isn't
@@ -164,50 +151,41 @@ module _ (all : List TypedWrite) (t : TypeName) (m : Entries) (s : Selection) (o
 
 -- ---- what is offered
 
-offered_by : (t : TypeName) (complete : Bool) (e : Option Entry) (p : Option (List ℕ)) (tells : Due → Bool) (d : Due) → (complete ≡ false → tells Removed ≡ false) → (if complete then option_map Stated p else if option_map_or tells (owed e p) false then owed e p else None) ≡ Some d
-    → (version : List ℕ) × (d ≡ Stated version) × (p ≡ Some version)
-offered_by t true e None tells d partial is = absurd cc
-offered_by t true e (Some version) tells d partial is = (version, due_is (Stated version) d is, refl)
-  where
-    due_is : (x y : Due) → ◌≡◌ {A = Option Due} (Some x) (Some y) → y ≡ x
-    due_is x y s = cc
-offered_by t false e p tells d partial is = by_owed (owed e p) refl is
-  where
-    due_is : (x y : Due) → ◌≡◌ {A = Option Due} (Some x) (Some y) → y ≡ x
-    due_is x y s = cc
+stated_or_none : (b : Bool) (v : List ℕ) → (if b then Some (Stated v) else None) ≡ Some Removed → ⊥
+stated_or_none true v is = absurd cc
+stated_or_none false v is = absurd cc
 
-    kept : (b : Bool) (x : Due) → (if b then Some x else None) ≡ Some d → (b ≡ true) × (d ≡ x)
-    kept true x s = (refl, due_is x d s)
-    kept false x s = absurd cc
+owed_removed : (tells : Due → Bool) (x : Option Due) → tells Removed ≡ false → (if option_map_or tells x false then x else None) ≡ Some Removed → ⊥
+owed_removed tells None partial is = absurd cc
+owed_removed tells (Some (Stated v)) partial is = stated_or_none (tells (Stated v)) v is
+owed_removed tells (Some Removed) partial is = let never : None ≡ Some Removed = ap (λ b. if b then Some Removed else None) (sym partial) ∙ is in absurd cc
 
-    by_owed : (x : Option Due) → owed e p ≡ x → (if option_map_or tells x false then x else None) ≡ Some d → (version : List ℕ) × (d ≡ Stated version) × (p ≡ Some version)
-    by_owed None owes s = absurd cc
-    by_owed (Some (Stated version)) owes s = (version, (kept (tells (Stated version)) (Stated version) s).1, present_if_stated e p version (ap (option_and_then stated_version) owes))
-    by_owed (Some Removed) owes s = let never : false ≡ true = sym (partial refl) ∙ (kept (tells Removed) Removed s).0 in absurd cc
+removed_by : (complete : Bool) (e : Option Entry) (p : Option (List ℕ)) (tells : Due → Bool) → (complete ≡ false → tells Removed ≡ false) → (if complete then option_map Stated p else if option_map_or tells (owed e p) false then owed e p else None) ≡ Some Removed → ⊥
+removed_by true e None tells partial is = absurd cc
+removed_by true e (Some v) tells partial is = absurd cc
+removed_by false e p tells partial is = owed_removed tells (owed e p) (partial refl) is
 
-pub offered_is : (t : TypeName) (s : Selection) (m : Entries) (b : Beliefs) (q : List ℕ) (d : Due) → finmap.get (offer StateOfTheWorld t s m b) q ≡ Some d → (version : List ℕ) × (d ≡ Stated version) × (present s m q ≡ Some version)
-offered_is t s m b q d is = offered_by t (row t).is_complete (finmap.get b q) (present s m q) (is_told StateOfTheWorld t) d (λ partial. partial) (sym (offer_says_it StateOfTheWorld t s m b q) ∙ is)
+-- no removal is
+never_removed : (t : TypeName) (s : Selection) (m : Entries) (b : Beliefs) (q : List ℕ) → finmap.get (offer StateOfTheWorld t s m b) q ≡ Some Removed → ⊥
+never_removed t s m b q is = removed_by (row t).is_complete (finmap.get b q) (present s m q) (is_told StateOfTheWorld t) (λ partial. partial) (sym (offer_says_it StateOfTheWorld t s m b q) ∙ is)
 
--- what is stated is reached
-pub stated_is_reached : (t : TypeName) (s : Selection) (m : Entries) (b : Beliefs) (q version : List ℕ) → finmap.get (offer StateOfTheWorld t s m b) q ≡ Some (Stated version) → reaches s q ≡ true
-stated_is_reached t s m b q version is = let made = offered_is t s m b q (Stated version) is in (live_at s q (finmap.get m q) made.0 made.2).0
+pub offered_is : (t : TypeName) (s : Selection) (m : Entries) (b : Beliefs) (q : List ℕ) (d : Due) → finmap.get (offer StateOfTheWorld t s m b) q ≡ Some d → (version : List ℕ) × (d ≡ Stated version)
+offered_is t s m b q (Stated version) is = (version, refl)
+offered_is t s m b q Removed is = absurd (never_removed t s m b q is)
 
-stated_same : (u v : List ℕ) → ◌≡◌ {A = Due} (Stated u) (Stated v) → v ≡ u
-stated_same u v e = cc
-
-stated_only : (v : List ℕ) → ◌≡◌ {A = Due} Removed (Stated v) → ⊥
-stated_only v e = cc
-
-says_by : (all : List TypedWrite) (t : TypeName) (h : Holdings) (s : Selection) (b : Beliefs) (known : AllKnown all t h.entries) (q : List ℕ) (stated : Option Holding) (x : Option Due) → finmap.get (offer StateOfTheWorld t s h.entries b) q ≡ x
-    → stated ≡ option_or (cond (is_some (finmap.get h.entries q)) (option_and_then (λ w. held_of (is_shown s w && is_some (finmap.get (offer StateOfTheWorld t s h.entries b) w.name)) w.body) (finmap.get h.entries q)) None) None → Says all t q x stated
-says_by all t h s b known q stated None is states = says_nothing all t h.entries s (offer StateOfTheWorld t s h.entries b) known q stated (finmap.get h.entries q) refl states (ap is_some is)
-says_by all t h s b known q stated (Some (Stated version)) is states =
-    let made = offered_is t s h.entries b q (Stated version) is in
-    says_stated all t h.entries s (offer StateOfTheWorld t s h.entries b) known q version stated (finmap.get h.entries q) refl states (made.2 ∙ ap Some (sym (stated_same made.0 version (sym made.1)))) (ap is_some is)
-says_by all t h s b known q stated (Some Removed) is states = let made = offered_is t s h.entries b q Removed is in absurd (stated_only made.0 made.1)
+says_by : (all : List TypedWrite) (t : TypeName) (h : Holdings) (s : Selection) (b : Beliefs) (known : AllKnown all t h.entries) (q : List ℕ) (removed : Bool) (stated : Option Holding) (x : Option Due) → finmap.get (offer StateOfTheWorld t s h.entries b) q ≡ x → removed ≡ false
+    → stated ≡ option_or (cond (is_some (finmap.get h.entries q)) (option_and_then (λ w. held_of (is_shown s w && is_some (finmap.get (offer StateOfTheWorld t s h.entries b) w.name)) w.body) (finmap.get h.entries q)) None) None
+    → Says (IsAt StateOfTheWorld all t q) x removed stated
+says_by all t h s b known q removed stated None is gone states = (says_nothing all t h.entries s (offer StateOfTheWorld t s h.entries b) known q stated (finmap.get h.entries q) refl states (ap is_some is), gone)
+says_by all t h s b known q removed stated (Some (Stated version)) is gone states =
+    says_stated all t h.entries s (offer StateOfTheWorld t s h.entries b) known q version stated (finmap.get h.entries q) refl states (stated_present StateOfTheWorld t s h.entries b q version is) (ap is_some is)
+says_by all t h s b known q removed stated (Some Removed) is gone states = absurd (never_removed t s h.entries b q is)
 
 pub response_says : (all : List TypedWrite) (replica : ℕ) (t : TypeName) (h : Holdings) (s : Selection) (b : Beliefs) (number : ℕ) (q : List ℕ) → AllKnown all t h.entries
-    → let o : Offer = offer StateOfTheWorld t s h.entries b in Says all t q (finmap.get o q) (finmap.get (stated_in t (response replica t h s o number)) q)
+    → let o : Offer = offer StateOfTheWorld t s h.entries b in
+    let d = drafts.Sotw (response replica t h s o number) in
+    Says (IsAt StateOfTheWorld all t q) (finmap.get o q) (is_removed_in t d q) (finmap.get (stated_in t d) q)
 response_says all replica t h s b number q known =
     let o : Offer = offer StateOfTheWorld t s h.entries b in
-    says_by all t h s b known q (finmap.get (stated_in t (response replica t h s o number)) q) (finmap.get o q) refl (stated_is all t h.entries s o known replica number h q refl)
+    let d = drafts.Sotw (response replica t h s o number) in
+    says_by all t h s b known q (is_removed_in t d q) (finmap.get (stated_in t d) q) (finmap.get o q) refl (ap is_some (finmap.get-empty text_cmp q)) (stated_is all t h.entries s o known replica number h q refl)

@@ -1,48 +1,41 @@
 -- A client of the state of the world that its replica owes nothing shows what is live there of what it wants.
-use Rattle.std.proofs.Common.{◌≡◌, inl, inr, ℕ, List, [], ◌∷◌, Bool, true, false, ◌&&◌, not, Option, Some, None, refl, sym, ap, subst, ◌∙◌}
+use Rattle.std.proofs.Common.{◌≡◌, inl, inr, ℕ, List, Bool, true, false, ◌&&◌, not, Option, Some, None, refl, sym, ap, ◌∙◌}
 use Rattle.std.specs.Prelude.{if◌then◌else◌, is_some, option_map, Contains, bytes_eq}
 use Rattle.std.specs.Option.{option_and_then, option_map_or}
-use Rattle.std.specs.List.{list_any, cons_option}
 use Rattle.std.specs.FinMap as finmap
-use Rattle.std.proofs.lemmas.Bool.{or_parts}
 use Rattle.xds_resource.specs.declared.types.TypeName.{TypeName}
-use Rattle.xds_resource.specs.Types.{row, is_same_type}
+use Rattle.xds_resource.specs.Types.{row}
 use Rattle.xds_resource.specs.PerType.{at}
 use Rattle.xds_resource.specs.Writes.{StampedWrite, version_of}
 use Rattle.xds_resource.proofs.NameMaps.{bytes_eq_tells}
-use Rattle.xds_resource.proofs.BoolsAndLists.{both_false}
 use Rattle.xds_interest.specs.Interests.{Selection, covers}
 use Rattle.xds_interest.specs.Asked.{Asked}
 use Rattle.xds_catalogue.specs.Holdings.{Entries}
-use Rattle.xds_message.specs.Drafts.{Drafted}
-use Rattle.xds_message.specs.DraftTexts.{kind_of}
 use Rattle.xds_ledger.specs.declared.variant.VariantName.TheVariants.{StateOfTheWorld}
 use Rattle.xds_ledger.specs.declared.entry.Entry.{Entry}
 use Rattle.xds_ledger.specs.declared.entry.Entry.TheVariants.{Told, Unsure}
 use Rattle.xds_ledger.specs.declared.entry.Due.{Due}
 use Rattle.xds_ledger.specs.declared.entry.Due.TheVariants.{Stated, Removed}
-use Rattle.xds_ledger.specs.Variants.{is_told, is_whole}
-use Rattle.xds_ledger.specs.Owed.{version_shown, present, owed, something_owed}
-use Rattle.xds_ledger.specs.Ledgers as ledgers
-use Rattle.xds_ledger.specs.Ledgers.{is_due}
+use Rattle.xds_ledger.specs.Variants.{is_told}
+use Rattle.xds_ledger.specs.Owed.{version_shown, present, owed}
 use Rattle.xds_ledger.specs.Sessions as sessions
 use Rattle.xds_ledger.specs.Sessions.{Session}
 use Rattle.xds_ledger.proofs.ByName.{nothing_owed}
 use Rattle.xds_core.specs.Stores.{Store}
-use Rattle.xds_core.specs.Streams.{Stream, Message, owes_of}
+use Rattle.xds_core.specs.Streams.{Stream, owes_of}
 use Rattle.xds_cache.specs.Shelves.{Holding, Shelf, interest, is_wanted}
 use Rattle.xds_cache.specs.Clients.{Client, shelf}
 use Rattle.xds_cache.proofs.Interests.{wants_what_is_reached}
 use Rattle.xds_world.specs.Worlds.{Link}
 use Rattle.xds_world.specs.Knows.{TypedWrite}
-use Rattle.xds_world.specs.Claims.{holding_of, shown_of, asks_for, is_quiet}
+use Rattle.xds_world.specs.Claims.{holding_of, shown_of, is_quiet}
 use Rattle.xds_world.proofs.Replicas.{some_is, if_both}
-use Rattle.xds_world.proofs.Settled.{IsUnique, AllStamped, one_write, none_shown, none_down, owed_by}
-use Rattle.xds_world.proofs.LinkTakes.{nothing_wanted}
+use Rattle.xds_world.proofs.Settled.{IsUnique, AllStamped, one_write, none_shown, owes_none, quiet_abreast, owed_by}
+use Rattle.xds_world.proofs.LaneSteps.{nothing_wanted}
 use Rattle.xds_world.proofs.Delivering.{AllKnown, shown_in}
-use Rattle.xds_world.proofs.SotwFolding.{folded}
-use Rattle.xds_world.proofs.SotwLanes.{Asks, IsHeld, Abreast}
-use Rattle.xds_world.proofs.SotwLinks.{sotw_in, lane_up, listed_draft, Linked}
+use Rattle.xds_world.proofs.ByOneName.{IsHeld}
+use Rattle.xds_world.proofs.Lanes.{IsAt, Asks, Abreast}
+use Rattle.xds_world.proofs.Queues.{Linked}
 
 -- ---- one name
 
@@ -63,14 +56,14 @@ none_where_absent tells (Some (Told u)) removes is = let never : true ≡ false 
 none_where_absent tells (Some Unsure) removes is = let never : true ≡ false = sym removes ∙ is in absurd cc
 
 -- what is held at the version of a write is that write's body
-held_is : (all : List TypedWrite) (t : TypeName) (name : List ℕ) (w : StampedWrite) (held : Option Holding) → IsUnique all → AllStamped all → Contains all (t, w) → IsHeld all t name (version_of w) held → option_map (λ h. h.body) held ≡ w.body
+held_is : (all : List TypedWrite) (t : TypeName) (name : List ℕ) (w : StampedWrite) (held : Option Holding) → IsUnique all → AllStamped all → Contains all (t, w) → IsHeld (IsAt StateOfTheWorld all t name) (version_of w) held → option_map (λ h. h.body) held ≡ w.body
 held_is all t name w held unique stamped made is =
-    let same : w ≡ is.0 = one_write all t w is.0 unique stamped made is.2 (sym is.4) in
-    ap (option_map (λ h. h.body)) is.6 ∙ sym is.5 ∙ ap (λ (x : StampedWrite). x.body) (sym same)
+    let same : w ≡ is.2.0 = one_write all t w is.2.0 unique stamped made is.2.1 (sym is.2.3) in
+    ap (option_map (λ h. h.body)) is.1 ∙ sym is.2.4 ∙ ap (λ (x : StampedWrite). x.body) (sym same)
 
 -- what is known where nothing is owed
 pub record Nothing (cluster : List ℕ) (all : List TypedWrite) (t : TypeName) (s : Session) (f : Shelf) (m : Entries) : Type 0 where
-  pub lane : Abreast cluster all t s None f
+  pub lane : Abreast StateOfTheWorld cluster all t s None f
   pub unique : IsUnique all
   pub stamped : AllStamped all
   pub known : AllKnown all t m
@@ -136,7 +129,7 @@ accepted_if true true is complete = refl
 accepted_if true false is complete = absurd cc
 accepted_if false accepted is complete = absurd cc
 
-shows_lane : (cluster : List ℕ) (all : List TypedWrite) (t : TypeName) (s : Session) (f : Shelf) (m : Entries) → Asks cluster t s f → Abreast cluster all t s None f → IsUnique all → AllStamped all → AllKnown all t m
+shows_lane : (cluster : List ℕ) (all : List TypedWrite) (t : TypeName) (s : Session) (f : Shelf) (m : Entries) → Asks StateOfTheWorld cluster t s f → Abreast StateOfTheWorld cluster all t s None f → IsUnique all → AllStamped all → AllKnown all t m
     → (s.asked.begun ≡ true → sessions.owes StateOfTheWorld t s m ≡ false) → Shows cluster t f m
 shows_lane cluster all t s f m (inr never) lane unique stamped known owes = record {
   exact = λ name complete. ap (option_map (λ h. h.body)) (lane.within name (unwanted name) ∙ sym (nothing_shown name));
@@ -150,11 +143,8 @@ shows_lane cluster all t s f m (inr never) lane unique stamped known owes = reco
     nothing_shown : (name : List ℕ) → shown_in (interest t cluster f.wants) m name ≡ None
     nothing_shown name = none_shown (interest t cluster f.wants) name (finmap.get m name) (wants_what_is_reached t cluster f.wants name ∙ unwanted name)
 shows_lane cluster all t s f m (inl asked) lane unique stamped known owes =
-    let begun : s.asked.begun ≡ true = ap (λ (a : Asked). a.begun) asked.1 in
     let same : s.asked.interest ≡ interest t cluster f.wants = ap (λ (a : Asked). a.interest) asked.1 in
-    let owed_nothing : ledgers.owes StateOfTheWorld t s.asked.interest m s.account ≡ false = sym (ap (λ b. b && ledgers.owes StateOfTheWorld t s.asked.interest m s.account) begun) ∙ owes begun in
-    let due = or_parts (is_some s.account.sent) (is_due StateOfTheWorld t s.asked.interest m s.account) owed_nothing in
-    let parts = or_parts (something_owed StateOfTheWorld t s.asked.interest m s.account.beliefs) (is_whole StateOfTheWorld t && not s.account.accepted) due.1 in
+    let parts = owes_none StateOfTheWorld t s m (ap (λ (a : Asked). a.begun) asked.1) owes in
     let nothing : Nothing cluster all t s f m = record {
       lane = lane;
       unique = unique;
@@ -171,20 +161,8 @@ shows_lane cluster all t s f m (inl asked) lane unique stamped known owes =
 
 -- ---- a link
 
-none_up : (t : TypeName) (ms : List Message) → list_any (asks_for t) ms ≡ false → lane_up t ms ≡ []
-none_up t [] none = refl
-none_up t (m ∷ ms) none = let parts = or_parts (asks_for t m) (list_any (asks_for t) ms) none in ap (λ o. cons_option o (lane_up t ms)) (ap (λ b. if b then sotw_in m else None) parts.0) ∙ none_up t ms parts.1
-
-none_listed : (down : Option Drafted) → [] ≡ listed_draft down → down ≡ None
-none_listed None is = refl
-none_listed (Some d) is = absurd cc
-
-pub link_shows : (all : List TypedWrite) (t : TypeName) (c : Client) (l : Link) (x : Stream) (store : Store) → Linked all c l x → IsUnique all → AllStamped all → AllKnown all t (at store t).entries → is_quiet t l ≡ true → owes_of store x t ≡ false
+pub link_shows : (all : List TypedWrite) (t : TypeName) (c : Client) (l : Link) (x : Stream) (store : Store) → Linked StateOfTheWorld all c l x → IsUnique all → AllStamped all → AllKnown all t (at store t).entries → is_quiet t l ≡ true → owes_of store x t ≡ false
     → Shows c.cluster t (shelf c t) (at store t).entries
 link_shows all t c l x store linked unique stamped known quiet nothing =
-    let parts = both_false (list_any (asks_for t) l.up) (list_any (λ d. is_same_type (kind_of d) t) l.down) quiet in
-    let lane = linked.lanes t in
-    let ups : lane_up t l.up ≡ [] = none_up t l.up parts.0 in
-    let down : lane.down ≡ None = none_listed lane.down (sym (none_down t l.down parts.1) ∙ lane.downs_are) in
-    let abreast : Abreast c.cluster all t (at x.sessions t) None (shelf c t) = subst (λ d. Abreast c.cluster all t (at x.sessions t) d (shelf c t)) down (subst (λ ms. Abreast c.cluster all t (folded t (at x.sessions t) ms) lane.down (shelf c t)) ups lane.abreast) in
+    let abreast = quiet_abreast StateOfTheWorld all t c l x linked quiet in
     shows_lane c.cluster all t (at x.sessions t) (shelf c t) (at store t).entries abreast.asks abreast unique stamped known (owed_by StateOfTheWorld c.cluster x store t linked.variant nothing)
