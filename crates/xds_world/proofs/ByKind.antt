@@ -6,27 +6,26 @@ use Rattle.xds_resource.specs.declared.types.TypeName.{TypeName}
 use Rattle.xds_resource.specs.declared.refusal.Refusal.TheVariants.{NoStream}
 use Rattle.xds_resource.specs.PerType.{at}
 use Rattle.xds_resource.specs.Types.{types}
-use Rattle.xds_message.specs.Messages as messages
-use Rattle.xds_message.specs.DeltaMessages.{DeltaRequest}
 use Rattle.xds_message.specs.declared.draft.Draft.{Draft}
 use Rattle.xds_ledger.specs.declared.outcome.Outcome.{Outcome}
 use Rattle.xds_ledger.specs.declared.variant.VariantName.{VariantName}
 use Rattle.xds_core.specs.Stores.{Store}
 use Rattle.xds_core.specs.Streams as streams
 use Rattle.xds_core.specs.Streams.{Stream, Message, variant_of, cluster_in, cluster_of, opening, requested, polled_first}
-use Rattle.xds_cache.specs.Shelves.{Wants, Shelf, bare, wants_of, wants_after}
+use Rattle.xds_cache.specs.Shelves.{wanting, Wants, Shelf, bare, wants_of}
 use Rattle.xds_cache.specs.Faults.{Test}
 use Rattle.xds_cache.specs.Clients as clients
 use Rattle.xds_cache.specs.Clients.{Client, shelf, shelf_after, identity, node, is_sent, unlinked}
 use Rattle.xds_cache.specs.Sends.{delta_request, sotw_request, sotw_first, delta_first, is_greeted}
 use Rattle.xds_cache.specs.Rest.{rest_changed}
-use Rattle.xds_cache.specs.Receives.{Outcome as ClientOutcome, sotw_change, sotw_changed, delta_change, delta_changed}
+use Rattle.xds_cache.specs.Receives.{Outcome as ClientOutcome}
 use Rattle.xds_world.specs.declared.event.ClientKind.{ClientKind}
 use Rattle.xds_world.specs.declared.event.ClientKind.TheVariants.{Sotw, Delta, Rest}
 use Rattle.xds_world.specs.Happenings.{Wish, Names, Edits}
 use Rattle.xds_world.specs.Worlds.{Link, Peer, opening_requests, has_streams, with_request, changed_by, wish_of, under_way, received_in}
-use Rattle.xds_world.specs.Knows.{TypedWrite}
+use Rattle.xds_world.specs.Knows.{TypedWrite, wished}
 use Rattle.xds_world.proofs.Replicas.{some_is, never}
+use Rattle.xds_world.proofs.Folding.{rejects_in}
 use Rattle.xds_world.proofs.LaneSteps.{IsChange, sotw_changes, delta_changes}
 use Rattle.xds_world.proofs.Queues.{Linked, started}
 use Rattle.xds_world.proofs.Starting.{started_decided, requested_started, requested_decides, polled_variant, polled_started, IsGreeting, Greets, oldest_greets, greeting_more, first_greets}
@@ -112,15 +111,15 @@ module _ (all : List TypedWrite) where
 
 -- ---- Change
 
-pub changed_ok : {X : Type 0} (tag : X → Message) (r : ClientOutcome (Option X)) (q : Client × Option Message) → changed_by tag r ≡ Some q → (y : Client × Option X) × (r ≡ Ok y) × (q ≡ (y.0, option_map tag y.1))
+changed_ok : {X : Type 0} (tag : X → Message) (r : ClientOutcome (Option X)) (q : Client × Option Message) → changed_by tag r ≡ Some q → (y : Client × Option X) × (r ≡ Ok y) × (q ≡ (y.0, option_map tag y.1))
 changed_ok tag (Ok y) q is = (y, refl, sym (some_is (y.0, option_map tag y.1) q is))
 changed_ok tag (Err e) q is = absurd cc
 
-pub changed_once : {X : Type 0} (broken : Bool) (y z : Client × Option X) → ◌≡◌ {A = ClientOutcome (Option X)} (if broken then Err NoStream else Ok y) (Ok z) → z ≡ y
+changed_once : {X : Type 0} (broken : Bool) (y z : Client × Option X) → ◌≡◌ {A = ClientOutcome (Option X)} (if broken then Err NoStream else Ok y) (Ok z) → z ≡ y
 changed_once true y z is = absurd cc
 changed_once false y z is = cc
 
-pub tagged_if : {X : Type 0} (tag : X → Message) (b : Bool) (m : X) → option_map tag (if b then Some m else None) ≡ (if b then Some (tag m) else None)
+tagged_if : {X : Type 0} (tag : X → Message) (b : Bool) (m : X) → option_map tag (if b then Some m else None) ≡ (if b then Some (tag m) else None)
 tagged_if tag true m = refl
 tagged_if tag false m = refl
 
@@ -130,63 +129,67 @@ sent_on l false m = λ i. record l { up = sym (append-nil l.up) i }
 
 -- what a client on streams is after a change, and what it sends
 pub record IsWished (k : ClientKind) (p : Peer) (up : Bool) (t : TypeName) (wish : Wish) (q : Client × Option Message) : Type 0 where
-  pub wants : Wants
   pub message : Message
-  pub left : q.0 ≡ clients.changed up t wants p.client
-  pub sent : q.1 ≡ (if is_sent up (shelf p.client t) wants then Some message else None)
+  pub left : q.0 ≡ clients.changed up t (wished wish (shelf p.client t).wants) p.client
+  pub sent : q.1 ≡ (if is_sent up (shelf p.client t) (wished wish (shelf p.client t).wants) then Some message else None)
   pub greets : p.client.greeted ≡ false → cluster_of message ≡ p.client.cluster
-  pub change : IsChange (spoken k) t (shelf p.client t) wants message
+  pub accepts : rejects_in message ≡ false
+  pub change : IsChange (spoken k) t (shelf p.client t) (wished wish (shelf p.client t).wants) message
 
-abbrev pub wished_is : (k : ClientKind) → has_streams k ≡ true → (p : Peer) (up : Bool) (t : TypeName) (wish : Wish) (q : Client × Option Message) → wish_of k p up t wish ≡ Some q → IsWished k p up t wish q
-wished_is Sotw has p up t (Names names) q is =
-    let w : Wants = wants_of names in
-    let m : messages.Request = sotw_request t (node p.client.greeted p.client) (shelf_after up t w p.client) None in
-    let made = changed_ok streams.Sotw (sotw_change up t w p.client) q is in
-    let once = changed_once (up && p.client.broken) (sotw_changed up t w p.client) made.0 made.1 in
+greets_by : (c : Client) → c.greeted ≡ false → cluster_in (node c.greeted c) ≡ c.cluster
+greets_by c new = ap (λ b. cluster_in (node b c)) new
+
+wished_by : {X : Type 0} (tag : X → Message) (k : ClientKind) (p : Peer) (up : Bool) (t : TypeName) (wish : Wish) (m : X) (q : Client × Option Message)
+    → let w = wished wish (shelf p.client t).wants in
+    changed_by tag (if up && p.client.broken then Err NoStream else Ok (clients.changed up t w p.client, if is_sent up (shelf p.client t) w then Some m else None)) ≡ Some q → (p.client.greeted ≡ false → cluster_of (tag m) ≡ p.client.cluster) → rejects_in (tag m) ≡ false
+    → IsChange (spoken k) t (shelf p.client t) w (tag m) → IsWished k p up t wish q
+wished_by {X} tag k p up t wish m q is greets accepts change =
+    let w : Wants = wished wish (shelf p.client t).wants in
+    let y : Client × Option X = (clients.changed up t w p.client, if is_sent up (shelf p.client t) w then Some m else None) in
+    let made = changed_ok tag (if up && p.client.broken then Err NoStream else Ok y) q is in
+    let once = changed_once (up && p.client.broken) y made.0 made.1 in
     record {
-      wants = w;
-      message = streams.Sotw m;
-      left = ap (λ y. y.0) made.2 ∙ ap (λ y. y.0) once;
-      sent = ap (λ y. y.1) made.2 ∙ ap (λ y. option_map streams.Sotw y.1) once ∙ tagged_if streams.Sotw (is_sent up (shelf p.client t) w) m;
-      greets = λ new. ap (λ b. cluster_in (if b then None else Some (identity p.client.node_id p.client.cluster))) new;
-      change = sotw_changes t (node p.client.greeted p.client) w (if is_sent up (shelf p.client t) w then true else (shelf p.client t).asked) (shelf p.client t);
+      message = tag m;
+      left = ap (λ z. z.0) made.2 ∙ ap (λ z. z.0) once;
+      sent = ap (λ z. z.1) made.2 ∙ ap (λ z. option_map tag z.1) once ∙ tagged_if tag (is_sent up (shelf p.client t) w) m;
+      greets = greets;
+      accepts = accepts;
+      change = change;
     }
+
+pub wished_is : (k : ClientKind) → has_streams k ≡ true → (p : Peer) (up : Bool) (t : TypeName) (wish : Wish) (q : Client × Option Message) → wish_of k p up t wish ≡ Some q → IsWished k p up t wish q
+wished_is Sotw has p up t (Names names) q is =
+    let who = node p.client.greeted p.client in
+    let w : Wants = wants_of names in
+    let asked : Bool = if is_sent up (shelf p.client t) w then true else (shelf p.client t).asked in
+    wished_by streams.Sotw Sotw p up t (Names names) (sotw_request t who (wanting t w asked (shelf p.client t)) None) q is (greets_by p.client) refl (sotw_changes t who w asked (shelf p.client t))
 wished_is Sotw has p up t (Edits subscribe unsubscribe) q is = absurd cc
 wished_is Delta has p up t (Names names) q is = absurd cc
 wished_is Delta has p up t (Edits subscribe unsubscribe) q is =
+    let who = node p.client.greeted p.client in
     let s : Wants = wants_of subscribe in
     let u : Wants = wants_of unsubscribe in
-    let w : Wants = wants_after s u (shelf p.client t).wants in
-    let m : DeltaRequest = delta_request t (node p.client.greeted p.client) s u finmap.empty in
-    let made = changed_ok streams.Delta (delta_change up t s u p.client) q is in
-    let once = changed_once (up && p.client.broken) (delta_changed up t s u p.client) made.0 made.1 in
-    record {
-      wants = w;
-      message = streams.Delta m;
-      left = ap (λ y. y.0) made.2 ∙ ap (λ y. y.0) once;
-      sent = ap (λ y. y.1) made.2 ∙ ap (λ y. option_map streams.Delta y.1) once ∙ tagged_if streams.Delta (is_sent up (shelf p.client t) w) m;
-      greets = λ new. ap (λ b. cluster_in (if b then None else Some (identity p.client.node_id p.client.cluster))) new;
-      change = delta_changes t (node p.client.greeted p.client) s u (shelf p.client t);
-    }
+    wished_by streams.Delta Delta p up t (Edits subscribe unsubscribe) (delta_request t who s u finmap.empty) q is (greets_by p.client) refl (delta_changes t who s u (shelf p.client t))
 wished_is Rest has p up t wish q is = absurd cc
 
 -- a client that polls sends nothing
-pub rest_wished : (p : Peer) (up : Bool) (t : TypeName) (wish : Wish) (q : Client × Option Message) → wish_of Rest p up t wish ≡ Some q → (w : Wants) × (q ≡ (rest_changed t w p.client, None))
-rest_wished p up t (Names names) q is = (wants_of names, sym (some_is (rest_changed t (wants_of names) p.client, None) q is))
+pub rest_wished : (p : Peer) (up : Bool) (t : TypeName) (wish : Wish) (q : Client × Option Message) → wish_of Rest p up t wish ≡ Some q → q ≡ (rest_changed t (wished wish (shelf p.client t).wants) p.client, None)
+rest_wished p up t (Names names) q is = sym (some_is (rest_changed t (wants_of names) p.client, None) q is)
 rest_wished p up t (Edits subscribe unsubscribe) q is = absurd (never q is)
 
 -- whatever a client is told to want, it stays of its cluster, and of use
 pub wished_stays : (k : ClientKind) (p : Peer) (up : Bool) (t : TypeName) (wish : Wish) (q : Client × Option Message) → wish_of k p up t wish ≡ Some q → (q.0.cluster ≡ p.client.cluster) × (q.0.broken ≡ p.client.broken)
 wished_stays Sotw p up t wish q is = let left = (wished_is Sotw refl p up t wish q is).left in (ap (λ (c : Client). c.cluster) left, ap (λ (c : Client). c.broken) left)
 wished_stays Delta p up t wish q is = let left = (wished_is Delta refl p up t wish q is).left in (ap (λ (c : Client). c.cluster) left, ap (λ (c : Client). c.broken) left)
-wished_stays Rest p up t wish q is = let made = rest_wished p up t wish q is in (ap (λ (y : Client × Option Message). y.0.cluster) made.1, ap (λ (y : Client × Option Message). y.0.broken) made.1)
+wished_stays Rest p up t wish q is = let made = rest_wished p up t wish q is in (ap (λ (y : Client × Option Message). y.0.cluster) made, ap (λ (y : Client × Option Message). y.0.broken) made)
 
 module _ (all : List TypedWrite) where
   -- the client wants something else of a type
   pub changed_to : (k : ClientKind) (p : Peer) (l : Link) (x : Stream) (t : TypeName) (wish : Wish) (q : Client × Option Message) → wish_of k p true t wish ≡ Some q → LinkedTo k all p.client l x → LinkedTo k all q.0 (with_request q.1 l) x
   changed_to k p l x t wish q is linked =
       let made = wished_is k linked.1.0 p true t wish q is in
-      let sent : Bool = is_sent true (shelf p.client t) made.wants in
+      let w : Wants = wished wish (shelf p.client t).wants in
+      let sent : Bool = is_sent true (shelf p.client t) w in
       let same : q.0.cluster ≡ p.client.cluster = ap (λ (c : Client). c.cluster) made.left in (
         λ none. subst (λ (m : Link). IsGreeting q.0 m.up) (sym (sent_on l sent made.message) ∙ ap (λ o. with_request o l) (sym made.sent))
             (greeting_more p.client q.0 l.up sent made.message same (λ unsent. ap (λ (c : Client). c.greeted) made.left ∙ ap (λ b. if b then true else p.client.greeted) unsent) made.greets (linked.0 none)),
@@ -194,16 +197,16 @@ module _ (all : List TypedWrite) where
           linked.1.0,
           subst (λ y. Linked (spoken k) all q.0 y (started q.0.cluster x)) (sym (sent_on l sent made.message) ∙ ap (λ o. with_request o l) (sym made.sent))
               (subst (λ y. Linked (spoken k) all y (record l { up = l.up ++ (if sent then made.message ∷ [] else []) }) (started y.cluster x)) (sym made.left)
-              (linked_changed (spoken k) all p.client l (started p.client.cluster x) t made.wants made.message made.change linked.1.1)),
+              (linked_changed (spoken k) all p.client l (started p.client.cluster x) t w made.message made.change linked.1.1)),
         ),
       )
 
   wished_rests : (k : ClientKind) → has_streams k ≡ true → (p : Peer) (t : TypeName) (wish : Wish) (q : Client × Option Message) → wish_of k p false t wish ≡ Some q → ((u : TypeName) → RestsAs k all u (shelf p.client u)) → (u : TypeName) → RestsAs k all u (shelf q.0 u)
-  wished_rests k has p t wish q is rests u = let made = wished_is k has p false t wish q is in subst (λ y. RestsAs k all u (shelf y u)) (sym made.left) (rests_changed (spoken k) all p.client t made.wants rests u)
+  wished_rests k has p t wish q is rests u = let made = wished_is k has p false t wish q is in subst (λ y. RestsAs k all u (shelf y u)) (sym made.left) (rests_changed (spoken k) all p.client t (wished wish (shelf p.client t).wants) rests u)
 
   pub rests_as : (k : ClientKind) (p : Peer) (t : TypeName) (wish : Wish) (q : Client × Option Message) → wish_of k p false t wish ≡ Some q → ((u : TypeName) → RestsAs k all u (shelf p.client u)) → (u : TypeName) → RestsAs k all u (shelf q.0 u)
   rests_as Sotw p t wish q is rests u = wished_rests Sotw refl p t wish q is rests u
   rests_as Delta p t wish q is rests u = wished_rests Delta refl p t wish q is rests u
   rests_as Rest p t wish q is rests u =
       let made = rest_wished p false t wish q is in
-      subst (λ (y : Client × Option Message). RestsAs Rest all u (shelf y.0 u)) (sym made.1) (record { within = rests_forgotten p.client t made.0 (λ s. (rests s).within) u; made = λ name h held. tt })
+      subst (λ (y : Client × Option Message). RestsAs Rest all u (shelf y.0 u)) (sym made) (record { within = rests_forgotten p.client t (wished wish (shelf p.client t).wants) (λ s. (rests s).within) u; made = λ name h held. tt })

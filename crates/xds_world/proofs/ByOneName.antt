@@ -1,13 +1,11 @@
 -- What an answer leaves of one name, on both sides: what the server believes, and what the client holds.
 use Rattle.std.proofs.Common.{◌≡◌, ◌⊎◌, inl, inr, ℕ, List, Bool, true, false, ◌||◌, ◌&&◌, Option, Some, None, refl, sym, ap, subst, ◌∙◌}
-use Rattle.std.specs.Prelude.{if◌then◌else◌, is_some, option_map, bytes_eq}
+use Rattle.std.specs.Prelude.{if◌then◌else◌, is_some, option_map}
 use Rattle.std.specs.Option.{option_or}
 use Rattle.xds_ledger.specs.declared.entry.Entry.{Entry}
 use Rattle.xds_ledger.specs.declared.entry.Entry.TheVariants.{Told, Unsure}
 use Rattle.xds_ledger.specs.declared.entry.Due.{Due}
 use Rattle.xds_ledger.specs.declared.entry.Due.TheVariants.{Stated, Removed}
-use Rattle.xds_resource.proofs.NameMaps.{bytes_eq_tells}
-use Rattle.xds_ledger.specs.Owed.{owed}
 use Rattle.xds_ledger.specs.Believing.{believed_accepted, believed_touched}
 use Rattle.xds_cache.specs.Shelves.{Holding}
 
@@ -136,22 +134,3 @@ told_resumed b (Some h) unsure v is = (h, refl, told_is h.version v is)
 pub none_resumed : (b : Option Entry) (held : Option Holding) → IsNone (resumed_after (version_held held) b) held
 none_resumed b None is = refl
 none_resumed b (Some h) is = absurd cc
-
--- ---- nothing owed
-
--- a client that is owed nothing of a name holds it exactly where it is present, at that version
-abbrev pub IsShown : Option (List ℕ) → Option Holding → Type 0
-IsShown None held = held ≡ None
-IsShown (Some v) held = IsHeld IsOfVersion v held
-
-same_version : (w v : List ℕ) (b : Bool) → bytes_eq w v ≡ b → (if b then None else Some (Stated v)) ≡ None → w ≡ v
-same_version w v true same e = bytes_eq_tells w v same
-same_version w v false same e = absurd cc
-
-pub shown_where_not_owed : (b : Option Entry) (present : Option (List ℕ)) (held : Option Holding) → owed b present ≡ None → IsTold IsOfVersion b held → IsNone b held → IsShown present held
-shown_where_not_owed None None held nothing told none = none refl
-shown_where_not_owed None (Some v) held nothing told none = absurd cc
-shown_where_not_owed (Some (Told w)) None held nothing told none = absurd cc
-shown_where_not_owed (Some (Told w)) (Some v) held nothing told none = let was = told w refl in (was.0, was.1, was.2 ∙ same_version w v (bytes_eq w v) refl nothing)
-shown_where_not_owed (Some Unsure) None held nothing told none = absurd cc
-shown_where_not_owed (Some Unsure) (Some v) held nothing told none = absurd cc

@@ -1,5 +1,5 @@
 -- What a response of the incremental variant says of each name: what its offer says.
-use Rattle.std.proofs.Common.{◌≡◌, ℕ, List, [], ◌∷◌, map, Bool, true, false, cond, ◌&&◌, ◌||◌, not, Option, Some, None, Ok, refl, sym, ap, ◌∙◌}
+use Rattle.std.proofs.Common.{◌≡◌, ℕ, List, [], ◌∷◌, map, Bool, true, false, cond, ◌&&◌, ◌||◌, not, Option, Some, None, Ok, refl, sym, ap, subst, ◌∙◌}
 use Rattle.std.specs.Prelude.{bytes_eq, if◌then◌else◌, is_some, option_map, Contains}
 use Rattle.std.specs.Option.{option_or, option_and_then, option_map_or, ForSome}
 use Rattle.std.specs.List.{filter, filter_map, cons_option}
@@ -68,52 +68,57 @@ canonical_is t r is =
 
 -- ---- the resources that are stated
 
+skipped : (same has : Bool) (l old : Option Holding) → (same ≡ true → l ≡ None) → option_or (cond has l None) old ≡ option_or (cond (same || has) l None) old
+skipped true true l old is = refl
+skipped true false l old is = ap (λ o. option_or o old) (sym (is refl))
+skipped false has l old is = refl
+
+put_on : (same has : Bool) (l old : Option Holding) (h : Holding) → (same ≡ true → l ≡ Some h) → option_or (cond has l None) (cond same (Some h) old) ≡ option_or (cond (same || has) l None) old
+put_on true true l old h is = ap (λ o. option_or o (Some h)) (is refl) ∙ ap (λ o. option_or o old) (sym (is refl))
+put_on true false l old h is = ap (λ o. option_or o old) (sym (is refl))
+put_on false has l old h is = refl
+
+-- by what is to be stated of each name
+module _ (t : TypeName) (told : List ℕ → Option Holding) (q : List ℕ) where
+  -- what resources state of these names, over what was stated before
+  abbrev pub States : List StatedResource → List (List ℕ) → Type 0
+  States rs ns = (before : Cache) → finmap.get (stated_by t before rs) q ≡ option_or (cond (has_text ns q) (told q) None) (finmap.get before q)
+
+  -- one more name, of which nothing is
+  pub states_skip : (n : List ℕ) (rs : List StatedResource) (ns : List (List ℕ)) → told n ≡ None → States rs ns → States rs (n ∷ ns)
+  states_skip n rs ns none behind before = behind before ∙ skipped (bytes_eq q n) (has_text ns q) (told q) (finmap.get before q) (λ same. ap told (bytes_eq_tells q n same) ∙ none)
+
+  -- and one of which a write's body is
+  pub states_put : (all : List TypedWrite) (n : List ℕ) (w : StampedWrite) (body : List ℕ) (r : StatedResource) (rs : List StatedResource) (ns : List (List ℕ)) → IsKnown all t n w → w.body ≡ Some body → r.resource ≡ value_of body → told n ≡ Some (record { version = r.version; body = body })
+      → States rs ns → States (r ∷ rs) (n ∷ ns)
+  states_put all n w body r rs ns known puts resource is behind before =
+      let h : Holding = record { version = r.version; body = body } in
+      let same : resource_of t r.resource ≡ record { name = w.name; body = body } = ap (resource_of t) resource ∙ canonical_is t (record { name = w.name; body = body }) (known.canonical body puts) in
+      let stated : finmap.get (and_stated t before r) q ≡ cond (bytes_eq q n) (Some h) (finmap.get before q) =
+      ap (λ (x : NamedBody). finmap.get (finmap.insert before x.name (record { version = r.version; body = x.body })) q) same ∙ get-insert before w.name h q
+      ∙ ap (λ b. cond b (Some h) (finmap.get before q)) (ap (λ x. bytes_eq x q) known.named ∙ bytes_eq_swap n q) in
+      behind (and_stated t before r) ∙ ap (option_or (cond (has_text ns q) (told q) None)) stated ∙ put_on (bytes_eq q n) (has_text ns q) (told q) (finmap.get before q) h (λ equal. ap told (bytes_eq_tells q n equal) ∙ is)
+
 abbrev pub listed : Entries → List (List ℕ) → List StatedResource
 listed m ns = map delta_stated (map drafted_resource (filter_map (resource_at m) ns))
 
 abbrev pub with_first : Option DraftedResource → Entries → List (List ℕ) → List StatedResource
 with_first r m ns = map delta_stated (map drafted_resource (cons_option r (filter_map (resource_at m) ns)))
 
--- what the names behind state, over what was stated before
-abbrev StatesBehind : TypeName → Entries → List (List ℕ) → List ℕ → Type 0
-StatesBehind t m ns q = (before : Cache) → finmap.get (stated_by t before (listed m ns)) q ≡ option_or (cond (has_text ns q) (live m q) None) (finmap.get before q)
+stated_name : (all : List TypedWrite) (t : TypeName) (m : Entries) (n q : List ℕ) (ns : List (List ℕ)) (o : Option StampedWrite) (b : Option (List ℕ)) → finmap.get m n ≡ o → option_and_then (λ (w : StampedWrite). w.body) o ≡ b → AllKnown all t m → States t (live m) q (listed m ns) ns
+    → States t (live m) q (with_first (option_and_then drafted_of o) m ns) (n ∷ ns)
+stated_name all t m n q ns None b has is known behind = states_skip t (live m) q n (listed m ns) ns (ap (option_and_then holding_of) has) behind
+stated_name all t m n q ns (Some w) None has is known behind =
+    subst (λ (x : Option (List ℕ)). States t (live m) q (with_first (option_map (λ body. record { name = w.name; version = version_of w; body = body }) x) m ns) (n ∷ ns)) (sym is)
+    (states_skip t (live m) q n (listed m ns) ns (ap (option_and_then holding_of) has ∙ ap (option_map (λ body. record { version = version_of w; body = body })) is) behind)
+stated_name all t m n q ns (Some w) (Some body) has is known behind =
+    subst (λ (x : Option (List ℕ)). States t (live m) q (with_first (option_map (λ y. record { name = w.name; version = version_of w; body = y }) x) m ns) (n ∷ ns)) (sym is)
+    (states_put t (live m) q all n w body (record { named = Some w.name; version = version_of w; resource = value_of body }) (listed m ns) ns (known n w has) is refl
+    (ap (option_and_then holding_of) has ∙ ap (option_map (λ x. record { version = version_of w; body = x })) is) behind)
 
-pub skipped : (same has : Bool) (l old : Option Holding) → (same ≡ true → l ≡ None) → option_or (cond has l None) old ≡ option_or (cond (same || has) l None) old
-skipped true true l old is = refl
-skipped true false l old is = ap (λ o. option_or o old) (sym (is refl))
-skipped false has l old is = refl
-
-pub put_on : (same has : Bool) (l old : Option Holding) (h : Holding) → (same ≡ true → l ≡ Some h) → option_or (cond has l None) (cond same (Some h) old) ≡ option_or (cond (same || has) l None) old
-put_on true true l old h is = ap (λ o. option_or o (Some h)) (is refl) ∙ ap (λ o. option_or o old) (sym (is refl))
-put_on true false l old h is = ap (λ o. option_or o old) (sym (is refl))
-put_on false has l old h is = refl
-
-stated_body : (all : List TypedWrite) (t : TypeName) (m : Entries) (n q : List ℕ) (ns : List (List ℕ)) (w : StampedWrite) (before : Cache) (b : Option (List ℕ)) → w.body ≡ b → finmap.get m n ≡ Some w → IsKnown all t n w → StatesBehind t m ns q
-    → finmap.get (stated_by t before (with_first (option_map (λ body. record { name = w.name; version = version_of w; body = body }) b) m ns)) q ≡ option_or (cond (bytes_eq q n || has_text ns q) (live m q) None) (finmap.get before q)
-stated_body all t m n q ns w before None is has known behind =
-    behind before ∙ skipped (bytes_eq q n) (has_text ns q) (live m q) (finmap.get before q)
-    (λ same. ap (live m) (bytes_eq_tells q n same) ∙ ap (option_and_then holding_of) has ∙ ap (option_map (λ body. record { version = version_of w; body = body })) is)
-stated_body all t m n q ns w before (Some body) is has known behind =
-    let h : Holding = record { version = version_of w; body = body } in
-    let r : StatedResource = record { named = Some w.name; version = version_of w; resource = value_of body } in
-    let same : resource_of t (value_of body) ≡ record { name = w.name; body = body } = canonical_is t (record { name = w.name; body = body }) (known.canonical body is) in
-    let stated : finmap.get (and_stated t before r) q ≡ cond (bytes_eq q n) (Some h) (finmap.get before q) =
-    ap (λ (x : NamedBody). finmap.get (finmap.insert before x.name (record { version = version_of w; body = x.body })) q) same ∙ get-insert before w.name h q
-    ∙ ap (λ b. cond b (Some h) (finmap.get before q)) (ap (λ x. bytes_eq x q) known.named ∙ bytes_eq_swap n q) in
-    behind (and_stated t before r) ∙ ap (option_or (cond (has_text ns q) (live m q) None)) stated
-    ∙ put_on (bytes_eq q n) (has_text ns q) (live m q) (finmap.get before q) h
-    (λ equal. ap (live m) (bytes_eq_tells q n equal) ∙ ap (option_and_then holding_of) has ∙ ap (option_map (λ x. record { version = version_of w; body = x })) is)
-
-stated_name : (all : List TypedWrite) (t : TypeName) (m : Entries) (n q : List ℕ) (ns : List (List ℕ)) (before : Cache) (o : Option StampedWrite) → finmap.get m n ≡ o → AllKnown all t m → StatesBehind t m ns q
-    → finmap.get (stated_by t before (with_first (option_and_then drafted_of o) m ns)) q ≡ option_or (cond (bytes_eq q n || has_text ns q) (live m q) None) (finmap.get before q)
-stated_name all t m n q ns before None has known behind =
-    behind before ∙ skipped (bytes_eq q n) (has_text ns q) (live m q) (finmap.get before q) (λ same. ap (live m) (bytes_eq_tells q n same) ∙ ap (option_and_then holding_of) has)
-stated_name all t m n q ns before (Some w) has known behind = stated_body all t m n q ns w before w.body refl has (known n w has) behind
-
-stated_names : (all : List TypedWrite) (t : TypeName) (m : Entries) (ns : List (List ℕ)) (q : List ℕ) → AllKnown all t m → StatesBehind t m ns q
+stated_names : (all : List TypedWrite) (t : TypeName) (m : Entries) (ns : List (List ℕ)) (q : List ℕ) → AllKnown all t m → States t (live m) q (listed m ns) ns
 stated_names all t m [] q known before = refl
-stated_names all t m (n ∷ ns) q known before =
-    ap (λ o. finmap.get (stated_by t before (with_first (option_and_then drafted_of o) m ns)) q) refl ∙ stated_name all t m n q ns before (finmap.get m n) refl known (stated_names all t m ns q known)
+stated_names all t m (n ∷ ns) q known before = stated_name all t m n q ns (finmap.get m n) (option_and_then (λ (w : StampedWrite). w.body) (finmap.get m n)) refl refl known (stated_names all t m ns q known) before
 
 -- ---- the names of which an offer says something
 

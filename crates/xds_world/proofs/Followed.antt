@@ -1,5 +1,5 @@
 -- Where clients are linked, of which cluster they are and what they want, as the list of happenings tells it, is so.
-use Rattle.std.proofs.Common.{◌≡◌, ◌≢◌, inl, inr, ℕ, List, [], ◌∷◌, ◌++◌, Bool, true, false, ◌&&◌, Option, Some, None, refl, sym, ap, ◌∙◌}
+use Rattle.std.proofs.Common.{◌≡◌, ◌≢◌, inl, inr, ℕ, List, [], ◌∷◌, ◌++◌, Bool, true, false, Option, Some, None, refl, sym, ap, ◌∙◌}
 use Rattle.std.specs.Prelude.{◌==◌, if◌then◌else◌, is_none, is_some, option_map}
 use Rattle.std.specs.Option.{option_and_then, option_map_or}
 use Rattle.std.specs.Ordering.{nat_cmp}
@@ -12,30 +12,26 @@ use Rattle.xds_resource.specs.Types.{types, is_same_type}
 use Rattle.xds_resource.specs.PerType.{at, with_at}
 use Rattle.xds_resource.proofs.TypesApart.{same_type, at-with_at, at-with_at_other, at-each}
 use Rattle.xds_catalogue.proofs.Lookups.{get-inserted}
-use Rattle.xds_message.specs.Messages as messages
-use Rattle.xds_message.specs.DeltaMessages.{DeltaRequest}
 use Rattle.xds_message.specs.declared.draft.Draft.{Draft}
-use Rattle.xds_core.specs.Streams as streams
 use Rattle.xds_core.specs.Streams.{Message}
 use Rattle.xds_core.specs.Events as events
 use Rattle.xds_core.specs.Events.{Event, Reply}
-use Rattle.xds_cache.specs.Shelves.{Wants, Shelf, bare, wants_of, wants_after}
+use Rattle.xds_cache.specs.Shelves.{Wants, Shelf, bare}
 use Rattle.xds_cache.specs.Faults.{Test}
 use Rattle.xds_cache.specs.Clients as clients
 use Rattle.xds_cache.specs.Clients.{Client, shelf, with_shelf, unlinked, shelf_after, addressing}
 use Rattle.xds_cache.specs.Sends.{is_greeted}
-use Rattle.xds_cache.specs.Rest.{forgetting, rest_changed}
-use Rattle.xds_cache.specs.Receives.{sotw_change, sotw_changed, delta_change, delta_changed}
+use Rattle.xds_cache.specs.Rest.{forgetting}
 use Rattle.xds_world.specs.declared.event.ClientKind.{ClientKind}
 use Rattle.xds_world.specs.declared.event.ClientKind.TheVariants.{Sotw, Delta, Rest}
 use Rattle.xds_world.specs.declared.event.AnswerFate.{AnswerFate}
-use Rattle.xds_world.specs.Happenings.{Happening, Wish, Names, Edits, AddReplica, AddClient, Put, Delete, Snapshot, Merge, Connect, Change, Up, Poll, Down, Lose, RestPoll}
-use Rattle.xds_world.specs.Worlds.{Site, Link, Peer, World, empty_world, at_site, happened_at, placed, pooled, with_peer, new_peer, connected_to, opened, with_request, changed, wish_of, wish_taken, under_way, polled, up_taken, received, taken_down, down_taken, is_free, is_to_connect, poll_event, happens, after}
+use Rattle.xds_world.specs.Happenings.{Happening, Wish, AddReplica, AddClient, Put, Delete, Snapshot, Merge, Connect, Change, Up, Poll, Down, Lose, RestPoll}
+use Rattle.xds_world.specs.Worlds.{Site, Link, Peer, World, empty_world, at_site, happened_at, placed, pooled, with_peer, new_peer, connected_to, opened, with_request, changed, wish_of, wish_taken, under_way, polled, up_taken, received, taken_down, down_taken, is_free, has_streams, is_to_connect, poll_event, happens, after}
 use Rattle.xds_world.specs.Knows.{wished, wishing, wanted_after, wants, placing, cluster_after, cluster as cluster_of, linking, linked_after, link}
 use Rattle.xds_world.specs.Claims.{LinksAreFollowed}
-use Rattle.xds_world.proofs.Replicas.{if_then, some_is, bound_some, mapped_some, if_some, none_there, never, IsRestPoll, rest_poll_is}
+use Rattle.xds_world.proofs.Replicas.{if_then, some_is, bound_some, mapped_some, if_some, none_there, IsRestPoll, rest_poll_is}
 use Rattle.xds_world.proofs.LinkTakes.{received_wants, connected_shelf, lost_shelf}
-use Rattle.xds_world.proofs.ByKind.{received_stays, changed_ok, changed_once, wished_stays}
+use Rattle.xds_world.proofs.ByKind.{received_stays, wished_is, rest_wished, wished_stays}
 use Rattle.xds_world.proofs.RestShelves.{answers_stay}
 use Rattle.xds_world.proofs.Everyone.{at_site_is}
 use Rattle.xds_world.proofs.EveryEvent.{link_there, same_peers, pooled_is, same_replica_on}
@@ -240,22 +236,17 @@ same_wanted s t c wish =
       | inr other ↦ ap (λ b. if b then wished wish (shelf c s).wants else (shelf c t).wants) other.1 ∙ ap (λ b. if b then wished wish (shelf c t).wants else (shelf c t).wants) (sym other.1)
     ]
 
+kept_wished : (k : ClientKind) → has_streams k ≡ true → (p : Peer) (up : Bool) (s : TypeName) (wish : Wish) (q : Client × Option Message) (t : TypeName) → wish_of k p up s wish ≡ Some q
+    → (shelf q.0 t).wants ≡ (if is_same_type s t then wished wish (shelf p.client s).wants else (shelf p.client t).wants)
+kept_wished k has p up s wish q t is = ap (λ (c : Client). (shelf c t).wants) (wished_is k has p up s wish q is).left ∙ wanted_changed up s (wished wish (shelf p.client s).wants) p.client t
+
 wished_wants : (k : ClientKind) (p : Peer) (up : Bool) (s : TypeName) (wish : Wish) (q : Client × Option Message) (t : TypeName) → wish_of k p up s wish ≡ Some q
     → (shelf q.0 t).wants ≡ (if is_same_type s t then wished wish (shelf p.client t).wants else (shelf p.client t).wants)
-wished_wants Sotw p up s (Names names) q t is =
-    let made = changed_ok streams.Sotw (sotw_change up s (wants_of names) p.client) q is in
-    ap (λ (x : Client × Option Message). (shelf x.0 t).wants) made.2 ∙ ap (λ (x : Client × Option messages.Request). (shelf x.0 t).wants) (changed_once (up && p.client.broken) (sotw_changed up s (wants_of names) p.client) made.0 made.1)
-    ∙ wanted_changed up s (wants_of names) p.client t
-wished_wants Sotw p up s (Edits subscribe unsubscribe) q t is = absurd cc
-wished_wants Delta p up s (Names names) q t is = absurd cc
-wished_wants Rest p up s (Edits subscribe unsubscribe) q t is = absurd (never q is)
-wished_wants Rest p up s (Names names) q t is =
-    ap (λ (x : Client × Option Message). (shelf x.0 t).wants) (sym (some_is (rest_changed s (wants_of names) p.client, None) q is)) ∙ put_wanted s (forgetting s (wants_of names) (shelf p.client s)) p.client t
-wished_wants Delta p up s (Edits subscribe unsubscribe) q t is =
-    let made = changed_ok streams.Delta (delta_change up s (wants_of subscribe) (wants_of unsubscribe) p.client) q is in
-    ap (λ (x : Client × Option Message). (shelf x.0 t).wants) made.2
-    ∙ ap (λ (x : Client × Option DeltaRequest). (shelf x.0 t).wants) (changed_once (up && p.client.broken) (delta_changed up s (wants_of subscribe) (wants_of unsubscribe) p.client) made.0 made.1)
-    ∙ wanted_changed up s (wants_after (wants_of subscribe) (wants_of unsubscribe) (shelf p.client s).wants) p.client t ∙ same_wanted s t p.client (Edits subscribe unsubscribe)
+wished_wants Sotw p up s wish q t is = kept_wished Sotw refl p up s wish q t is ∙ same_wanted s t p.client wish
+wished_wants Delta p up s wish q t is = kept_wished Delta refl p up s wish q t is ∙ same_wanted s t p.client wish
+wished_wants Rest p up s wish q t is =
+    let w : Wants = wished wish (shelf p.client s).wants in
+    ap (λ (x : Client × Option Message). (shelf x.0 t).wants) (rest_wished p up s wish q is) ∙ put_wanted s (forgetting s w (shelf p.client s)) p.client t ∙ same_wanted s t p.client wish
 
 changed_comes : (test : Test) (w left : World) (d : ℕ) (s : TypeName) (wish : Wish) → happens test w (Change d s wish) ≡ Some left
     → (x : Comes w left d) × (replica_of x.after ≡ replica_of x.before) × (x.after.client.cluster ≡ x.before.client.cluster) × ((t : TypeName) → (shelf x.after.client t).wants ≡ (if is_same_type s t then wished wish (shelf x.before.client t).wants else (shelf x.before.client t).wants))

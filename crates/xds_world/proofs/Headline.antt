@@ -8,6 +8,7 @@ use Rattle.xds_resource.specs.declared.types.TypeName.{TypeName}
 use Rattle.xds_resource.specs.PerType.{at}
 use Rattle.xds_resource.specs.Best.{best}
 use Rattle.xds_catalogue.proofs.Catalogues.{get-catalogue_of}
+use Rattle.xds_ledger.specs.declared.variant.VariantName.TheVariants.{StateOfTheWorld, Delta}
 use Rattle.xds_core.specs.Streams.{Stream, owes_of}
 use Rattle.xds_cache.specs.Shelves.{interest, is_wanted}
 use Rattle.xds_cache.specs.Clients.{shelf}
@@ -26,7 +27,6 @@ use Rattle.xds_world.proofs.Delivering.{AllKnown, shown_in}
 use Rattle.xds_world.proofs.Queues.{started}
 use Rattle.xds_world.proofs.Starting.{owes_started}
 use Rattle.xds_world.proofs.Settled.{link_shows}
-use Rattle.xds_world.proofs.SotwSettled.{link_shows as sotw_link_shows}
 use Rattle.xds_world.proofs.Journals.{journals_are_legal, journals_tell_all}
 use Rattle.xds_world.proofs.Polled.{polled_is_exact, polled_is_taken, lost_leaves_the_view, polls_are_possible, pollers_have_no_stream}
 use Rattle.xds_world.proofs.Followed.{links_are_followed, linked_to, wanted_of, placed_of, link_is, cluster_is, wants_are}
@@ -105,7 +105,8 @@ settled_is_exact test hs put c r p t has delta linked settled name =
     let all : List TypedWrite = made_after test empty_world [] hs in
     let all_sure = sure test hs put in
     let s = settled_link test hs c r p t put has linked settled in
-    link_shows all t p.client s.link (started p.client.cluster s.stream) s.site.core.store name (subst (λ v. LinkedTo v all p.client s.link s.stream) delta s.linked).1.1 all_sure.stamped.unique all_sure.ranged.stamps s.known s.quiet (owes_started p.client.cluster s.site.core.store s.stream t ∙ s.nothing) ∙ shown_is test hs c r p t name s
+    (link_shows Delta all t p.client s.link (started p.client.cluster s.stream) s.site.core.store (subst (λ v. LinkedTo v all p.client s.link s.stream) delta s.linked).1.1 all_sure.stamped.unique all_sure.ranged.stamps s.known s.quiet (owes_started p.client.cluster s.site.core.store s.stream t ∙ s.nothing)).exact name refl
+    ∙ shown_is test hs c r p t name s
 
 -- and for clients of the state of the world
 pub settled_agrees : (test : Test) (hs : List Happening) → PutResources hs → SettledAgrees test hs
@@ -113,7 +114,7 @@ settled_agrees test hs put c r p t has sotw linked settled =
     let all : List TypedWrite = made_after test empty_world [] hs in
     let all_sure = sure test hs put in
     let s = settled_link test hs c r p t put has linked settled in
-    let shows = sotw_link_shows all t p.client s.link (started p.client.cluster s.stream) s.site.core.store (subst (λ v. LinkedTo v all p.client s.link s.stream) sotw s.linked).1.1 all_sure.stamped.unique all_sure.ranged.stamps s.known s.quiet (owes_started p.client.cluster s.site.core.store s.stream t ∙ s.nothing) in (
+    let shows = link_shows StateOfTheWorld all t p.client s.link (started p.client.cluster s.stream) s.site.core.store (subst (λ v. LinkedTo v all p.client s.link s.stream) sotw s.linked).1.1 all_sure.stamped.unique all_sure.ranged.stamps s.known s.quiet (owes_started p.client.cluster s.site.core.store s.stream t ∙ s.nothing) in (
       λ complete name. shows.exact name complete ∙ ap (option_map (λ h. h.body)) (shown_is test hs c r p t name s),
       (λ name h is. shows.agrees name h (shown_is test hs c r p t name s ∙ is), λ name unwanted. shows.within name (ap (λ w. is_wanted t w name) (sym s.wanted) ∙ unwanted)),
     )

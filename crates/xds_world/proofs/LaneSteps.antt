@@ -1,13 +1,12 @@
 -- What keeps a lane abreast: an answer, a change, a first request, and a response that is sent.
-use Rattle.std.proofs.Common.{◌≡◌, ◌⊎◌, inl, inr, ℕ, suc, List, [], ◌∷◌, Bool, true, false, ◌&&◌, ◌||◌, not, Option, Some, None, refl, sym, ap, subst, ◌∙◌, ◌<◌, ◌≤◌, length, arith}
-use Rattle.std.specs.Prelude.{bytes_eq, if◌then◌else◌, is_some, is_none, option_map, decimal}
+use Rattle.std.proofs.Common.{◌≡◌, ◌⊎◌, inl, inr, ℕ, suc, List, [], ◌∷◌, Bool, true, false, ◌&&◌, ◌||◌, not, Option, Some, None, refl, sym, ap, subst, ◌∙◌, ◌≤◌, arith}
+use Rattle.std.specs.Prelude.{bytes_eq, if◌then◌else◌, is_some, is_none, option_map}
 use Rattle.std.specs.Option.{option_map_or}
 use Rattle.std.specs.List.{list_any}
 use Rattle.std.specs.FinMap as finmap
 use Rattle.std.specs.FinSet as set
 use Rattle.std.proofs.Math.Bool.{and-false}
 use Rattle.std.proofs.lemmas.Bool.{or_parts}
-use Rattle.std.proofs.lemmas.Fmt.{decimal_nonempty}
 use Rattle.std.proofs.lemmas.List.Folds.{list_any-append}
 use Rattle.xds_resource.specs.declared.types.TypeName.{TypeName}
 use Rattle.xds_resource.specs.Types.{row}
@@ -44,8 +43,10 @@ use Rattle.xds_cache.specs.Deliveries.{Delivery, fault_in, cache_after, taking, 
 use Rattle.xds_cache.specs.Sends.{sotw_request, sotw_opening, delta_request, delta_opening}
 use Rattle.xds_cache.proofs.Interests.{wants_what_is_reached, shown_by_name, kept_by_name, holds_what_is_wanted, change_is_asked, first_change_is_asked, first_is_asked, no_texts}
 use Rattle.xds_world.specs.Knows.{TypedWrite}
+use Rattle.xds_world.proofs.Replicas.{never, some_is, mapped_some}
 use Rattle.xds_world.proofs.Folding.{names_of, rejects_in, answer_of, take_is, names_reach, names_resume, believed_by_name, nothing_resumed, believed_quiet, folded, AllTaken, NoneAnswers, touched_by, unsettled, begun_folded, never_stale, sending_folded, untouched_folded, touched_folded}
 use Rattle.xds_world.proofs.ByOneName.{IsTold, IsNone, Says, resumed_after, believed_after, version_held, IsOfVersion, held_after, kept_after, not_told, touched_not_told, by_touch, told_accepted, none_accepted, told_changed, none_changed, told_resumed, none_resumed, held_made, kept_made}
+use Rattle.xds_world.proofs.Queues.{nonces_differ}
 use Rattle.xds_world.proofs.Lanes.{variant_in, delivery, stated_in, is_removed_in, whole_in, reply, IsAt, IsMade, asking, Delivers, Awaits, TouchedIsUnsure, IsWithin, AllMade, Abreast, asked_of, asks_begun, none_sent, asks_if_sent, awaited, nothing_sent, awaits_none, taken_if_plain, after_reply}
 
 -- ---- an answer
@@ -125,13 +126,6 @@ pub record IsChange (v : VariantName) (t : TypeName) (f : Shelf) (w : Wants) (m 
   pub opens : (cluster : List ℕ) → wants_some f.wants ≡ false → wants_some w ≡ true → (names_of t (unasked cluster) m).asked ≡ asking v cluster t w
   pub resumes : (cluster : List ℕ) → (names_of t (unasked cluster) m).versions ≡ finmap.empty
 
-not_empty : (xs : List ℕ) → 0 < length xs → bytes_eq [] xs ≡ false
-not_empty [] some = absurd (omega (arith, some))
-not_empty (x ∷ xs) some = refl
-
-no_nonce : (k : ℕ) → suc k ≤ max_counter → bytes_eq [] (nonce_text (suc k)) ≡ false
-no_nonce k within = not_empty (decimal (suc k)) (decimal_nonempty (suc k) (omega (arith, within)))
-
 in_date : (b c d : Bool) → not (b && (c && d && false)) ≡ true
 in_date true true true = refl
 in_date true true false = refl
@@ -159,7 +153,7 @@ unsettled_by v k all t a f (Some d) nonce rejects (Some sent) is has awaits =
     ap (λ b. if b then option_map_or (λ x. answered k t a x rejects) a.sent a else a) (ap (λ b. is_some a.sent && b) (other is) ∙ and-false (is_some a.sent))
   where
     other : (nonce ≡ []) ⊎ (nonce ≡ f.nonce) → bytes_eq nonce (nonce_text a.nonce) ≡ false
-    other (inl none) = (λ i. bytes_eq (none i) (nonce_text (awaits.0.numbered.1 i))) ∙ no_nonce awaits.0.numbered.0 awaits.0.numbered.2
+    other (inl none) = (λ i. bytes_eq (none i) (nonce_text (awaits.0.numbered.1 i))) ∙ nonces_differ awaits.0.numbered.0 [] awaits.0.numbered.2 (0, omega arith, refl)
     other (inr last) = ap (λ x. bytes_eq x (nonce_text a.nonce)) last ∙ awaits.1
 
 delivers_touched : (v : VariantName) (all : List TypedWrite) (t : TypeName) (n : ℕ) (sent : Sent) (w after : Wants) (touched : Touch) (d : Draft) → ((q : List ℕ) → touches touched q ≡ false → is_wanted t after q ≡ is_wanted t w q)
@@ -206,13 +200,6 @@ still_unsure v t s after sent touched now kept before name version whole was tol
     last_of true is = refl
     last_of false is = is
 
-mapped : (o : Option Sent) (touched : Touch) (x : Sent) → option_map (λ y. touched_since y touched) o ≡ Some x → (sent : Sent) × (o ≡ Some sent) × (x ≡ touched_since sent touched)
-mapped None touched x is = absurd cc
-mapped (Some sent) touched x is = (sent, refl, some_sent (touched_since sent touched) x is)
-  where
-    some_sent : (y z : Sent) → Some y ≡ Some z → z ≡ y
-    some_sent y z e = cc
-
 -- the client wants something else of a type that it asked for, and its request is taken
 pub abreast_changed : (v : VariantName) (cluster : List ℕ) (all : List TypedWrite) (t : TypeName) (w : Wants) (m : Message) (s : Session) (down : Option Draft) (f : Shelf) → f.asked ≡ true → IsChange v t f w m → Abreast v cluster all t s down f
     → Abreast v cluster all t (session_after t s m) down (wanting t w true f)
@@ -237,7 +224,7 @@ abreast_changed v cluster all t w m s down f asked change lane =
       awaits = subst (λ n. Awaits v all t n (session_after t s m).account.sent w f.nonce down) (sym (ap (λ x. x.account.nonce) is ∙ ap (λ (a : Account). a.nonce) account))
           (subst (λ o. Awaits v all t s.account.nonce o w f.nonce down) (sym sent_is) (awaits_touched v all t s.account.nonce s.account.sent f.wants w f.nonce names.touched down same lane.awaits));
       touched = λ x now.
-          let from = mapped s.account.sent names.touched x (sym sent_is ∙ now) in
+          let from = mapped_some (λ y. touched_since y names.touched) s.account.sent x (sym sent_is ∙ now) in
           subst (TouchedIsUnsure v t (session_after t s m)) (sym from.2)
           (still_unsure v t s (session_after t s m) from.0 names.touched
           (λ name u touches_it told. touched_not_told (touches names.touched name) (is_wanted t w name) (set.contains names.mentioned name) (finmap.get s.account.beliefs name) u touches_it (sym (believed name) ∙ told))
@@ -310,9 +297,6 @@ if_none : (b : Bool) → kept_after b None ≡ None
 if_none true = refl
 if_none false = refl
 
-pub none_held : (h : Holding) → ◌≡◌ {A = Option Holding} None (Some h) → ⊥
-none_held h e = cc
-
 -- nothing is held, and nothing is believed
 pub abreast_unopened : (v : VariantName) (cluster : List ℕ) (all : List TypedWrite) (t : TypeName) (f : Shelf) → f.asked ≡ false → wants_some f.wants ≡ false → f.nonce ≡ [] → ((q : List ℕ) → finmap.get f.cache q ≡ None) → Abreast v cluster all t (unopened cluster) None f
 abreast_unopened v cluster all t f not_asked none nonce empty = record {
@@ -322,7 +306,7 @@ abreast_unopened v cluster all t f not_asked none nonce empty = record {
   told = λ q u is. let never : None ≡ Some (Told u) = sym (finmap.get-empty text_cmp q) ∙ is in absurd cc;
   none = λ q counted is. empty q;
   within = λ q unwanted. empty q;
-  made = λ q h is. absurd (none_held h (sym (empty q) ∙ is));
+  made = λ q h is. absurd (never h (sym (empty q) ∙ is));
 }
 
 -- a change that is the first request of its type on a stream
@@ -334,7 +318,7 @@ abreast_asked v cluster all t w m f change none some nonce within =
     let unresumed : (q : List ℕ) → resumed_after (finmap.get names.versions q) (fresh t cluster m q) ≡ fresh t cluster m q = λ q. ap (λ x. resumed_after (finmap.get x q) (fresh t cluster m q)) (change.resumes cluster) ∙ nothing_resumed (fresh t cluster m q) q in
     abreast_first v cluster all t m (wanting t w true f) refl nonce (change.opens cluster none some)
     (λ q u told. absurd (untold (touches names.touched q) (reaches names.asked.interest q) (set.contains names.mentioned q) u (sym (unresumed q) ∙ told))) (λ q whole is. absent q) (λ q unwanted. absent q)
-    (λ q h held. absurd (none_held h (sym (absent q) ∙ held)))
+    (λ q h held. absurd (never h (sym (absent q) ∙ held)))
 
 -- ---- the requests of a client
 
@@ -422,9 +406,6 @@ abreast_opened Delta cluster all t who f some within made =
 
 -- ---- a response is sent
 
-sent_is : (x y : Sent) → ◌≡◌ {A = Option Sent} (Some x) (Some y) → x ≡ y
-sent_is x y e = cc
-
 -- the replica sent a response, while these requests are under way to it
 pub abreast_sent : (v : VariantName) (cluster : List ℕ) (all : List TypedWrite) (t : TypeName) (s : Session) (ups : List Message) (f : Shelf) (o : Offer) (d : Draft) (k : ℕ) → s.account.sent ≡ None → s.asked.begun ≡ true → IsStarOfComplete t s.asked
     → AllTaken t s ups → NoneAnswers (suc k) ups → suc k ≤ max_counter → bytes_eq f.nonce (nonce_text (suc k)) ≡ false → variant_in d ≡ v → (delivery t d).nonce ≡ nonce_text (suc k)
@@ -449,7 +430,7 @@ abreast_sent v cluster all t s ups f o d k none begun stands taken apart bounded
         },
         other,
       );
-      touched = λ x is. subst (TouchedIsUnsure v t (with_sent after o (touched_by t s ups) (suc k))) (sent_is sent x is) (λ name u whole touches_it told. touched_folded t s ups name u begun taken none touches_it told);
+      touched = λ x is. subst (TouchedIsUnsure v t (with_sent after o (touched_by t s ups) (suc k))) (some_is sent x is) (λ name u whole touches_it told. touched_folded t s ups name u begun taken none touches_it told);
       told = lane.told;
       none = lane.none;
       within = lane.within;

@@ -36,8 +36,8 @@ use Rattle.xds_world.specs.Knows.{TypedWrite}
 use Rattle.xds_world.proofs.Replicas.{some_is, never}
 use Rattle.xds_world.proofs.Folding.{folded, quiet_folded, folded_more, taken_more}
 use Rattle.xds_world.proofs.ByOneName.{kept_after, kept_made}
-use Rattle.xds_world.proofs.Lanes.{variant_in, delivery, delivered_parts, reply, reply_variant, reply_url, reply_nonce, IsMade, IsWithin, AllMade, Abreast, asks_none, awaited, nothing_sent, taken_if_sent}
-use Rattle.xds_world.proofs.LaneSteps.{abreast_delivered, IsChange, change_taken, abreast_changed, nothing_wanted, none_held, abreast_unopened, abreast_asked, opening_of, abreast_opened}
+use Rattle.xds_world.proofs.Lanes.{variant_in, delivery, delivered_parts, reply, reply_variant, reply_url, reply_nonce, IsMade, IsWithin, AllMade, Abreast, asks_none, none_sent, awaited, nothing_sent, taken_if_sent}
+use Rattle.xds_world.proofs.LaneSteps.{abreast_delivered, IsChange, change_taken, abreast_changed, nothing_wanted, abreast_unopened, abreast_asked, opening_of, abreast_opened}
 use Rattle.xds_world.proofs.Queues.{lane_up, lane_down, own_more, other_more, IsOf, all_of-append, IsNumbered, all_numbered-append, Lane, Linked, started}
 use Rattle.xds_world.proofs.LinkSteps.{undecided_session}
 use Rattle.xds_world.proofs.Firsts.{firsts, once, all_firsts, first_lane}
@@ -55,21 +55,8 @@ one_down d rest (Some e) is = (ap Some (sym (head_is d e rest [] is)), tail_is d
     tail_is : (x y : Draft) (xs ys : List Draft) → x ∷ xs ≡ y ∷ ys → xs ≡ ys
     tail_is x y xs ys e = cc
 
-not_empty : (d : Draft) (ds es : List Draft) → es ≡ d ∷ ds → es ≡ [] → ⊥
-not_empty d ds es is empty = let never : d ∷ ds ≡ [] = sym is ∙ empty in absurd cc
-
 own_first : (d : Draft) (rest ds : List Draft) → ds ≡ d ∷ rest → lane_down (kind_of d) ds ≡ d ∷ lane_down (kind_of d) rest
 own_first d rest ds is = ap (lane_down (kind_of d)) is ∙ ap (λ b. if b then d ∷ lane_down (kind_of d) rest else lane_down (kind_of d) rest) (is_same_type-same (kind_of d))
-
--- while the stream's variant isn't decided, no response is under way
-pub none_brought : (v : VariantName) (all : List TypedWrite) (c : Client) (l : Link) (x : Stream) (d : Draft) (rest : List Draft) → l.down ≡ d ∷ rest → x.variant ≡ None → Linked v all c l x → ⊥
-none_brought v all c l x d rest down none linked =
-    let t : TypeName = kind_of d in
-    let lane = linked.lanes t in
-    let s : Session = folded t (at x.sessions t) (lane_up t l.up) in
-    let quiet = quiet_folded t (at x.sessions t) (lane_up t l.up) (ap (λ (k : Session). k.account.sent) (undecided_session v c.cluster x t linked.variant none)) in
-    let nothing = nothing_sent v all t s.account.nonce s.account.sent (shelf c t).wants (shelf c t).nonce lane.down quiet lane.abreast.awaits in
-    not_empty d (lane_down t rest) (lane_down t l.down) (own_first d rest l.down down) (lane.downs_are ∙ ap under_way nothing.0)
 
 -- the oldest response is the one that is unanswered of its type
 pub brought : (v : VariantName) (all : List TypedWrite) (c : Client) (l : Link) (x : Stream) (d : Draft) (rest : List Draft) → l.down ≡ d ∷ rest → Linked v all c l x
@@ -79,15 +66,20 @@ brought v all c l x d rest down linked =
     let lane = linked.lanes t in
     subst (λ o. Abreast v c.cluster all t (folded t (at x.sessions t) (lane_up t l.up)) o (shelf c t)) (one_down d (lane_down t rest) lane.down (sym (own_first d rest l.down down) ∙ lane.downs_are)).0 lane.abreast
 
--- and of the client's variant
+-- and is of the client's variant
 pub brought_speaks : (v : VariantName) (all : List TypedWrite) (c : Client) (l : Link) (x : Stream) (d : Draft) (rest : List Draft) → l.down ≡ d ∷ rest → Linked v all c l x → variant_in d ≡ v
 brought_speaks v all c l x d rest down linked =
     let t : TypeName = kind_of d in
     let s : Session = folded t (at x.sessions t) (lane_up t l.up) in
     (awaited v all t s.account.nonce s.account.sent (shelf c t).wants (shelf c t).nonce d (brought v all c l x d rest down linked).awaits).2.speaks
 
-none_down : (d : Draft) → ◌≡◌ {A = Option Draft} None (Some d) → ⊥
-none_down d e = cc
+-- while the stream's variant isn't decided, there is none
+pub none_brought : (v : VariantName) (all : List TypedWrite) (c : Client) (l : Link) (x : Stream) (d : Draft) (rest : List Draft) → l.down ≡ d ∷ rest → x.variant ≡ None → Linked v all c l x → ⊥
+none_brought v all c l x d rest down none linked =
+    let t : TypeName = kind_of d in
+    let s : Session = folded t (at x.sessions t) (lane_up t l.up) in
+    let sent = awaited v all t s.account.nonce s.account.sent (shelf c t).wants (shelf c t).nonce d (brought v all c l x d rest down linked).awaits in
+    none_sent s.account.sent sent.0 (quiet_folded t (at x.sessions t) (lane_up t l.up) (ap (λ (k : Session). k.account.sent) (undecided_session v c.cluster x t linked.variant none))) sent.1
 
 -- the lane of the type of a response that the client took
 lane_delivered : (v : VariantName) (cluster : List ℕ) (all : List TypedWrite) (t : TypeName) (test : Test) (s : Session) (count : ℕ) (ups : List Message) (rest : List Draft) (d : Draft) (f : Shelf) → Lane v cluster all t s count ups (d ∷ rest) f
@@ -104,7 +96,7 @@ lane_delivered v cluster all t test s count ups rest d f lane =
       stands = lane.stands;
       taken = taken_more t s ups m lane.taken (taken_if_sent (folded t s ups) (nonce_of m) sent.0 sent.1);
       numbered = all_numbered-append count ups m lane.numbered (number.0, number.1, reply_nonce t test f d ∙ number.2);
-      answered = λ e is. absurd (none_down e is);
+      answered = λ e is. absurd (never e is);
       last = (number.0, number.1, (delivered_parts t f (delivery t d) (fault_in t test (delivery t d))).1 ∙ number.2);
       abreast = subst (λ x. Abreast v cluster all t x None (delivered t test f (delivery t d))) (sym (folded_more t s ups m)) (abreast_delivered v cluster all t test (folded t s ups) f d abreast);
     }
@@ -220,7 +212,7 @@ module _ (v : VariantName) (cluster : List ℕ) (all : List TypedWrite) (t : Typ
         stands = lane.stands;
         taken = taken_more t s ups m lane.taken (change_taken v all t (folded t s ups) f lane.down (nonce_of m) change.nonce lane.abreast.awaits);
         numbered = all_numbered-append count ups m lane.numbered (change_numbered count f (nonce_of m) change.nonce lane.last);
-        answered = λ d is. absurd (none_down d is);
+        answered = λ d is. absurd (never d is);
         last = lane.last;
         abreast = subst (λ x. Abreast v cluster all t x None (wanting t w true f)) (sym (folded_more t s ups m ∙ ap (λ x. session_after t x m) before.0)) (abreast_asked v cluster all t w m f change before.1 some before.2 lane.abreast.within);
       }
@@ -236,7 +228,7 @@ module _ (v : VariantName) (cluster : List ℕ) (all : List TypedWrite) (t : Typ
         stands = lane.stands;
         taken = lane.taken;
         numbered = lane.numbered;
-        answered = λ d is. absurd (none_down d is);
+        answered = λ d is. absurd (never d is);
         last = lane.last;
         abreast = subst (λ x. Abreast v cluster all t x None (wanting t w f.asked f)) (sym before.0)
             (abreast_unopened v cluster all t (wanting t w f.asked f) not_asked some before.2 (λ name. kept_by_name t w f.cache name ∙ ap (λ b. kept_after b (finmap.get f.cache name)) (nothing_wanted t w name some)));
@@ -314,7 +306,7 @@ lane_opened v cluster all t who f true some rests = record {
   stands = star_of_none cluster t;
   taken = (refl, tt);
   numbered = ((zero, omega arith, opening_nonce v t who f), tt);
-  answered = λ d is. absurd (none_down d is);
+  answered = λ d is. absurd (never d is);
   last = (zero, omega arith, refl);
   abreast = abreast_opened v cluster all t who f some rests.within rests.made;
 }
@@ -324,7 +316,7 @@ lane_opened v cluster all t who f false some rests = record {
   stands = star_of_none cluster t;
   taken = tt;
   numbered = tt;
-  answered = λ d is. absurd (none_down d is);
+  answered = λ d is. absurd (never d is);
   last = (zero, omega arith, refl);
   abreast = abreast_unopened v cluster all t (connected f) some some refl (λ name. rests.within name (nothing_wanted t f.wants name some));
 }
@@ -386,4 +378,4 @@ rests_changed v all c s w rests t = by_type (same_type s t)
 
 -- a client that is new
 pub rests_fresh : (v : VariantName) (all : List TypedWrite) (t : TypeName) → Rests v all t bare
-rests_fresh v all t = record { within = λ name unwanted. finmap.get-empty text_cmp name; made = λ name h held. absurd (none_held h (sym (finmap.get-empty text_cmp name) ∙ held)) }
+rests_fresh v all t = record { within = λ name unwanted. finmap.get-empty text_cmp name; made = λ name h held. absurd (never h (sym (finmap.get-empty text_cmp name) ∙ held)) }

@@ -19,6 +19,7 @@ use Rattle.xds_catalogue.proofs.Catalogues.{get-catalogue_of}
 use Rattle.xds_sessions.specs.Rest.{whole, asked_once}
 use Rattle.xds_message.specs.Drafts.{Drafted, message_of}
 use Rattle.xds_message.specs.Messages.{Request}
+use Rattle.xds_ledger.specs.declared.variant.VariantName.TheVariants.{StateOfTheWorld}
 use Rattle.xds_core.specs.Events as events
 use Rattle.xds_core.specs.Events.{Event, Reply}
 use Rattle.xds_core.specs.Steps.{step}
@@ -38,7 +39,7 @@ use Rattle.xds_world.specs.Claims.{writes_of, shown_of, content_at, Shows as Sho
 use Rattle.xds_world.proofs.Replicas.{some_is, IsRestPoll, rest_poll_is}
 use Rattle.xds_world.proofs.Ranges.{sites_known}
 use Rattle.xds_world.proofs.Delivering.{AllKnown, shown_in}
-use Rattle.xds_world.proofs.SotwSettled.{Shows}
+use Rattle.xds_world.proofs.Settled.{Shows}
 use Rattle.xds_world.proofs.SettlingSessions.{never_both}
 use Rattle.xds_world.proofs.RestShelves.{each_shelf, left_if, answers_stay}
 use Rattle.xds_world.proofs.EveryEvent.{get_put, polls_as, linked_never}
@@ -74,14 +75,14 @@ pub record IsSound (w : World) (all : List TypedWrite) (r : ℕ) (t : TypeName) 
 
 -- after an answer that isn't rejected the client shows what its replica holds
 polled_shows : (test : Test) (w : World) (all : List TypedWrite) (r : ℕ) (t : TypeName) (c x : Client) (draft : Option Drafted) → (is : IsAnswered w r t c draft) → IsSound w all r t is.site → answer_taken test Arrives c t draft ≡ Some x
-    → is_rejected (rest_receive test c t (option_map message_of draft)) ≡ false → IsPresent w.sites c.cluster t (shelf c t) → Shows c.cluster t (shelf x t) (at is.site.core.store t).entries
+    → is_rejected (rest_receive test c t (option_map message_of draft)) ≡ false → IsPresent w.sites c.cluster t (shelf c t) → Shows StateOfTheWorld c.cluster t (shelf x t) (at is.site.core.store t).entries
 polled_shows test w all r t c x None is sound takes accepts present =
     let h : Holdings = at is.site.core.store t in
     let same : x ≡ c = left_if (wants_some (shelf c t).wants) _ x takes in
     let kept = present r h.changes sound.number sound.within (answers_none r t h (interest t c.cluster (shelf c t).wants) (shelf c t).accepted (sym is.says)) in
     let site : kept.0 ≡ is.site = some_is kept.0 is.site (sym kept.1 ∙ is.there) in
-    subst (λ (y : Client). Shows c.cluster t (shelf y t) h.entries) (sym same)
-    (subst (λ (s : Site). Shows c.cluster t (shelf c t) (at {X = Holdings} s.core.store t).entries) site (kept.3 (ap (λ (s : Site). (at {X = Holdings} s.core.store t).changes) (sym site))))
+    subst (λ (y : Client). Shows StateOfTheWorld c.cluster t (shelf y t) h.entries) (sym same)
+    (subst (λ (s : Site). Shows StateOfTheWorld c.cluster t (shelf c t) (at {X = Holdings} s.core.store t).entries) site (kept.3 (ap (λ (s : Site). (at {X = Holdings} s.core.store t).changes) (sym site))))
 polled_shows test w all r t c x (Some d) is sound takes accepts present =
     let h : Holdings = at is.site.core.store t in
     let s : Selection = interest t c.cluster (shelf c t).wants in
@@ -92,7 +93,7 @@ polled_shows test w all r t c x (Some d) is sound takes accepts present =
     let taken : shelf x t ≡ rest_taking t (shelf c t) (sotw_delivery t (message_of (whole r t h s))) =
     ap (λ y. shelf y t) left ∙ at-with_at c.shelves t (rest_delivered t test (shelf c t) (sotw_delivery t (message_of d))) ∙ ap (λ o. option_map_or (λ y. shelf c t) o (rest_taking t (shelf c t) (sotw_delivery t (message_of d)))) fault
     ∙ ap (λ (y : Drafted). rest_taking t (shelf c t) (sotw_delivery t (message_of y))) whole_is in
-    subst (λ f. Shows c.cluster t f h.entries) (sym taken) (taken_shows c.cluster all t (shelf c t) r h sound.known)
+    subst (λ f. Shows StateOfTheWorld c.cluster t f h.entries) (sym taken) (taken_shows c.cluster all t (shelf c t) r h sound.known)
 
 -- and none is rejected that the test takes all of
 polled_taken : (test : Test) (w : World) (all : List TypedWrite) (r : ℕ) (t : TypeName) (c : Client) (draft : Option Drafted) → (is : IsAnswered w r t c draft) → IsSound w all r t is.site → TakesShown test t (at is.site.core.store t).entries (interest t c.cluster (shelf c t).wants)
@@ -196,7 +197,7 @@ module _ (test : Test) (hs : List Happening) (c r : ℕ) (t : TypeName) (answer 
 -- ---- the claims
 
 -- what is shown of what a replica holds, by what it knows
-shows_writes : (t : TypeName) (cluster : List ℕ) (f : Shelf) (m : Entries) (w : Wants) (ws : List StampedWrite) (of : List ℕ) → f.wants ≡ w → ((name : List ℕ) → shown_in (interest t cluster w) m name ≡ content_at t ws of w name) → Shows cluster t f m → ShowsWrites t ws of w f.cache
+shows_writes : (t : TypeName) (cluster : List ℕ) (f : Shelf) (m : Entries) (w : Wants) (ws : List StampedWrite) (of : List ℕ) → f.wants ≡ w → ((name : List ℕ) → shown_in (interest t cluster w) m name ≡ content_at t ws of w name) → Shows StateOfTheWorld cluster t f m → ShowsWrites t ws of w f.cache
 shows_writes t cluster f m w ws of same content shows = (
   λ complete name. shows.exact name complete ∙ ap (λ v. option_map (λ h. h.body) (shown_in (interest t cluster v) m name)) same ∙ ap (option_map (λ h. h.body)) (content name),
   (λ name h is. shows.agrees name h (ap (λ v. shown_in (interest t cluster v) m name) same ∙ content name ∙ is), λ name unwanted. shows.within name (ap (λ v. is_wanted t v name) same ∙ unwanted)),

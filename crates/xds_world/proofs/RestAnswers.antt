@@ -24,6 +24,7 @@ use Rattle.xds_cache.specs.Deliveries.{Delivery, sotw_delivery, fault_in, statem
 use Rattle.xds_cache.proofs.Making.{get-cache_after}
 use Rattle.xds_cache.specs.Rest.{rest_taking}
 use Rattle.xds_cache.proofs.Interests.{wants_what_is_reached, holds_what_is_wanted}
+use Rattle.xds_ledger.specs.declared.variant.VariantName.TheVariants.{StateOfTheWorld}
 use Rattle.xds_world.specs.Knows.{TypedWrite}
 use Rattle.xds_world.specs.Claims.{holding_of, shown_of}
 use Rattle.xds_world.proofs.Replicas.{some_is, never, both_parts}
@@ -31,7 +32,7 @@ use Rattle.xds_world.proofs.Delivering.{AllKnown, shown_in}
 use Rattle.xds_world.proofs.Settled.{none_shown}
 use Rattle.xds_world.proofs.Lanes.{stated_in}
 use Rattle.xds_world.proofs.SotwDelivering.{listed, held_of, picked_is}
-use Rattle.xds_world.proofs.SotwSettled.{Shows}
+use Rattle.xds_world.proofs.Settled.{Shows}
 use Rattle.xds_world.proofs.SettlingSessions.{never_both}
 use Rattle.xds_world.proofs.SettlingFaults.{Blamed, first_blamed, Listed, sotw_listed}
 
@@ -120,7 +121,7 @@ module _ (cluster : List ℕ) (all : List TypedWrite) (t : TypeName) (f : Shelf)
   agrees_by name x true o is live = or_first (stated_at name) o x.body (whole_states all t replica h sees name known ∙ ap bodied live)
   agrees_by name x false o is live = absurd (never x (sym (hidden name is) ∙ live))
 
-  pub taken_shows : Shows cluster t (rest_taking t f given) h.entries
+  pub taken_shows : Shows StateOfTheWorld cluster t (rest_taking t f given) h.entries
   taken_shows = record {
     exact = λ name complete. ap bodied (get-cache_after t f.wants given.whole given.removed (statements t given) f.cache name) ∙ exact_by name (is_wanted t f.wants name) (row t).is_complete _ refl complete refl;
     agrees = λ name x live. ap bodied (get-cache_after t f.wants given.whole given.removed (statements t given) f.cache name) ∙ agrees_by name x (is_wanted t f.wants name) _ refl live;

@@ -18,6 +18,7 @@ use Rattle.xds_ledger.specs.Texts.{interest_version}
 use Rattle.xds_sessions.specs.Rest.{asked_once, whole, unless_present}
 use Rattle.xds_message.specs.Drafts.{Drafted, message_of}
 use Rattle.xds_message.specs.Messages.{Request}
+use Rattle.xds_ledger.specs.declared.variant.VariantName.TheVariants.{StateOfTheWorld}
 use Rattle.xds_core.specs.Streams.{Message, cluster_in}
 use Rattle.xds_core.specs.Events as events
 use Rattle.xds_core.specs.Events.{Event, Reply}
@@ -33,13 +34,13 @@ use Rattle.xds_world.specs.declared.event.ClientKind.{ClientKind}
 use Rattle.xds_world.specs.declared.event.ClientKind.TheVariants.{Sotw, Delta, Rest}
 use Rattle.xds_world.specs.Happenings.{Happening, Wish, AddReplica, AddClient, Put, Delete, Snapshot, Merge, Connect, Change, Up, Poll, Down, Lose, RestPoll}
 use Rattle.xds_world.specs.Worlds.{Site, Link, Peer, World, empty_world, at_site, with_peer, new_peer, opened, changed, wish_taken, wish_of, polled, up_taken, down_taken, has_streams, is_to_connect, asked_by, poll_event, answer_taken, happens}
-use Rattle.xds_world.specs.Knows.{TypedWrite, Knowledge}
+use Rattle.xds_world.specs.Knows.{TypedWrite, Knowledge, wished}
 use Rattle.xds_world.specs.Journal.{event_at}
 use Rattle.xds_world.proofs.Replicas.{Kept, IsRestPoll, rest_poll_is, some_is, ok_is, never, bound_some, mapped_some, if_some, if_both, both_parts}
 use Rattle.xds_world.proofs.Origins.{Stamped, sites_come}
 use Rattle.xds_world.proofs.Ranges.{Ranged, sites_known}
 use Rattle.xds_world.proofs.Delivering.{AllKnown}
-use Rattle.xds_world.proofs.SotwSettled.{Shows}
+use Rattle.xds_world.proofs.Settled.{Shows}
 use Rattle.xds_world.proofs.ByKind.{rest_wished}
 use Rattle.xds_world.proofs.RestShelves.{each_shelf, answer_leaves}
 use Rattle.xds_world.proofs.Everyone.{at_site_is, Fine}
@@ -55,7 +56,7 @@ use Rattle.xds_world.proofs.RestAnswers.{asked_is_interest, answers_whole, taken
 abbrev pub IsPresent : FinMap nat_cmp Site → List ℕ → TypeName → Shelf → Type 0
 IsPresent sites cluster t f =
     (r k : ℕ) → r ≤ max_writer → k ≤ max_counter → f.accepted ≡ interest_version r k (interest t cluster f.wants)
-    → (s : Site) × (finmap.get sites r ≡ Some s) × (k ≤ (at s.core.store t).changes) × (k ≡ (at s.core.store t).changes → Shows cluster t f (at s.core.store t).entries)
+    → (s : Site) × (finmap.get sites r ≡ Some s) × (k ≤ (at s.core.store t).changes) × (k ≡ (at s.core.store t).changes → Shows StateOfTheWorld cluster t f (at s.core.store t).entries)
 
 -- the entries of every replica are those of a catalogue
 abbrev AllCatalogues : FinMap nat_cmp Site → Type 0
@@ -77,7 +78,7 @@ grown_present before after cluster t f grow catalogues present r k r_to k_to is 
       now.1,
       at_most k (at was.0.core.store t).changes (at now.0.core.store t).changes was.2 grows.from,
       λ equal. let both = both_equal k (at was.0.core.store t).changes (at now.0.core.store t).changes was.2 grows.from equal in
-          subst (Shows cluster t f) (sym (grows.same both.1 (catalogues r was.0 t was.1))) (was.3 both.0),
+          subst (Shows StateOfTheWorld cluster t f) (sym (grows.same both.1 (catalogues r was.0 t was.1))) (was.3 both.0),
     )
 
 -- who keeps no version keeps it
@@ -218,9 +219,8 @@ lose_present test w left all d is fine present =
 wished_present : (sites : FinMap nat_cmp Site) (k : ClientKind) (p : Peer) (up : Bool) (t : TypeName) (wish : Wish) (q : Client × Option Message) → k ≡ Rest → wish_of k p up t wish ≡ Some q → ((u : TypeName) → IsPresent sites p.client.cluster u (shelf p.client u))
     → (u : TypeName) → IsPresent sites q.0.cluster u (shelf q.0 u)
 wished_present sites Rest p up t wish q kind is present u =
-    let made = rest_wished p up t wish q is in
-    subst (λ (y : Client × Option Message). IsPresent sites y.0.cluster u (shelf y.0 u)) (sym made.1)
-    (each_shelf (IsPresent sites p.client.cluster) p.client t (forgetting t made.0 (shelf p.client t)) (unversioned sites p.client.cluster t (forgetting t made.0 (shelf p.client t)) refl) present u)
+    let f : Shelf = forgetting t (wished wish (shelf p.client t).wants) (shelf p.client t) in
+    subst (λ (y : Client × Option Message). IsPresent sites y.0.cluster u (shelf y.0 u)) (sym (rest_wished p up t wish q is)) (each_shelf (IsPresent sites p.client.cluster) p.client t f (unversioned sites p.client.cluster t f refl) present u)
 wished_present sites Sotw p up t wish q kind is present u = absurd cc
 wished_present sites Delta p up t wish q kind is present u = absurd cc
 

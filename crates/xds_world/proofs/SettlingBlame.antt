@@ -30,9 +30,9 @@ use Rattle.xds_cache.specs.Clients.{Client, shelf, is_sent}
 use Rattle.xds_cache.specs.Sends.{sotw_first, delta_first}
 use Rattle.xds_world.specs.declared.event.ClientKind.{ClientKind}
 use Rattle.xds_world.specs.declared.event.ClientKind.TheVariants.{Sotw, Delta, Rest}
-use Rattle.xds_world.specs.Happenings.{Wish, Names as AllNames, Edits}
-use Rattle.xds_world.specs.Worlds.{Link, Peer, opening_requests, under_way, received_in, with_request, wish_of}
-use Rattle.xds_world.specs.Knows.{TypedWrite}
+use Rattle.xds_world.specs.Happenings.{Wish}
+use Rattle.xds_world.specs.Worlds.{Link, Peer, opening_requests, has_streams, under_way, received_in, with_request, wish_of}
+use Rattle.xds_world.specs.Knows.{TypedWrite, wished}
 use Rattle.xds_world.specs.Claims.{asks_for}
 use Rattle.xds_world.proofs.Replicas.{some_is, mapped_some, never}
 use Rattle.xds_world.proofs.Delivering.{AllKnown}
@@ -127,16 +127,15 @@ fair_requested : (all : List TypedWrite) (test : Test) (l : Link) (x : Stream) (
 fair_requested all test l x false m accepts fair cluster t = fair cluster t
 fair_requested all test l x true m accepts fair cluster t = fair_request all test t (at (started cluster x).sessions t) l.up m (lane_down t l.down) accepts (fair cluster t)
 
+fair_wished : (k : ClientKind) → has_streams k ≡ true → (all : List TypedWrite) (test : Test) (p : Peer) (l : Link) (x : Stream) (t : TypeName) (wish : Wish) (q : Client × Option Message) → wish_of k p true t wish ≡ Some q → FairOn all test l x → FairOn all test (with_request q.1 l) x
+fair_wished k has all test p l x t wish q is fair =
+    let made = wished_is k has p true t wish q is in
+    subst (λ o. FairOn all test (with_request o l) x) (sym made.sent) (fair_requested all test l x (is_sent true (shelf p.client t) (wished wish (shelf p.client t).wants)) made.message made.accepts fair)
+
 pub fair_changed : (k : ClientKind) (all : List TypedWrite) (test : Test) (p : Peer) (l : Link) (x : Stream) (t : TypeName) (wish : Wish) (q : Client × Option Message) → wish_of k p true t wish ≡ Some q → FairOn all test l x → FairOn all test (with_request q.1 l) x
-fair_changed Rest all test p l x t wish q is fair = let made = rest_wished p true t wish q is in subst (λ (y : Client × Option Message). FairOn all test (with_request y.1 l) x) (sym made.1) fair
-fair_changed Sotw all test p l x t (Edits subscribe unsubscribe) q is fair = absurd cc
-fair_changed Delta all test p l x t (AllNames names) q is fair = absurd cc
-fair_changed Sotw all test p l x t (AllNames names) q is fair =
-    let made = wished_is Sotw refl p true t (AllNames names) q is in
-    subst (λ o. FairOn all test (with_request o l) x) (sym made.sent) (fair_requested all test l x (is_sent true (shelf p.client t) made.wants) made.message refl fair)
-fair_changed Delta all test p l x t (Edits subscribe unsubscribe) q is fair =
-    let made = wished_is Delta refl p true t (Edits subscribe unsubscribe) q is in
-    subst (λ o. FairOn all test (with_request o l) x) (sym made.sent) (fair_requested all test l x (is_sent true (shelf p.client t) made.wants) made.message refl fair)
+fair_changed Sotw all test p l x t wish q is fair = fair_wished Sotw refl all test p l x t wish q is fair
+fair_changed Delta all test p l x t wish q is fair = fair_wished Delta refl all test p l x t wish q is fair
+fair_changed Rest all test p l x t wish q is fair = subst (λ (y : Client × Option Message). FairOn all test (with_request y.1 l) x) (sym (rest_wished p true t wish q is)) fair
 
 -- ---- the start of a stream
 

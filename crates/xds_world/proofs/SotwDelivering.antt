@@ -1,14 +1,14 @@
 -- What a response of the state of the world says of each name: what its offer says.
-use Rattle.std.proofs.Common.{◌≡◌, ℕ, List, [], ◌∷◌, map, Bool, true, false, cond, ◌&&◌, ◌||◌, Option, Some, None, refl, sym, ap, ◌∙◌}
-use Rattle.std.specs.Prelude.{bytes_eq, if◌then◌else◌, is_some, option_map}
+use Rattle.std.proofs.Common.{◌≡◌, ℕ, List, [], ◌∷◌, map, Bool, true, false, cond, ◌&&◌, Option, Some, None, refl, sym, ap, ◌∙◌}
+use Rattle.std.specs.Prelude.{if◌then◌else◌, is_some, option_map}
 use Rattle.std.specs.Option.{option_or, option_and_then, option_map_or}
 use Rattle.std.specs.List.{filter, filter_map, cons_option}
 use Rattle.std.specs.FinMap as finmap
 use Rattle.xds_resource.specs.declared.types.TypeName.{TypeName}
 use Rattle.xds_resource.specs.Types.{row}
-use Rattle.xds_resource.specs.Resources.{NamedBody, value_of, resource_of}
+use Rattle.xds_resource.specs.Resources.{value_of}
 use Rattle.xds_resource.specs.Writes.{StampedWrite, text_cmp, version_of}
-use Rattle.xds_resource.proofs.NameMaps.{has_text, get-insert, has_text-keys, bytes_eq_tells, bytes_eq_swap}
+use Rattle.xds_resource.proofs.NameMaps.{has_text-keys}
 use Rattle.xds_resource.proofs.MadeMaps.{EachFound, each_found}
 use Rattle.xds_interest.specs.Interests.{Selection, covers}
 use Rattle.xds_catalogue.specs.Holdings.{Holdings, Entries}
@@ -23,12 +23,12 @@ use Rattle.xds_ledger.specs.Owed.{Beliefs, live_version, version_shown, present,
 use Rattle.xds_ledger.specs.Offers.{Offer, offer}
 use Rattle.xds_ledger.proofs.ByName.{offer_says_it}
 use Rattle.xds_sessions.specs.SotwPolls.{response, stated_writes}
-use Rattle.xds_cache.specs.Shelves.{Holding, Cache}
-use Rattle.xds_cache.specs.Faults.{Stated as StatedResource, stated_by, and_stated}
+use Rattle.xds_cache.specs.Shelves.{Holding}
+use Rattle.xds_cache.specs.Faults.{Stated as StatedResource, stated_by}
 use Rattle.xds_cache.specs.Deliveries.{sotw_stated}
 use Rattle.xds_world.specs.Knows.{TypedWrite}
 use Rattle.xds_world.proofs.Replicas.{some_is, if_both}
-use Rattle.xds_world.proofs.Delivering.{IsKnown, AllKnown, canonical_is, skipped, put_on, stated_present}
+use Rattle.xds_world.proofs.Delivering.{IsKnown, AllKnown, States, states_skip, states_put, stated_present}
 use Rattle.xds_world.proofs.ByOneName.{IsHeld, Says}
 use Rattle.xds_world.proofs.Lanes.{IsAt, stated_in, is_removed_in}
 
@@ -73,38 +73,23 @@ module _ (all : List TypedWrite) (t : TypeName) (m : Entries) (s : Selection) (p
   abbrev behind : List (List ℕ × StampedWrite) → List StatedResource
   behind es = listed (filter p (filter (is_shown s) (map (λ e. e.1) es)))
 
-  abbrev StatesBehind : List (List ℕ × StampedWrite) → List ℕ → Type 0
-  StatesBehind es q = (before : Cache) → finmap.get (stated_by t before (behind es)) q ≡ option_or (cond (has_text (map (λ e. e.0) es) q) (told_of q) None) (finmap.get before q)
+  abbrev keys : List (List ℕ × StampedWrite) → List (List ℕ)
+  keys es = map (λ e. e.0) es
 
-  states_next : (n q : List ℕ) (w : StampedWrite) (es : List (List ℕ × StampedWrite)) (picked : Bool) (b : Option (List ℕ)) → picks w ≡ picked → w.body ≡ b → finmap.get m n ≡ Some w → StatesBehind es q → (before : Cache)
-      → finmap.get (stated_by t before (next picked b (behind es))) q ≡ option_or (cond (bytes_eq q n || has_text (map (λ e. e.0) es) q) (told_of q) None) (finmap.get before q)
-  states_next n q w es picked None picks_it body found rest before =
-      rest before ∙ skipped (bytes_eq q n) (has_text (map (λ e. e.0) es) q) (told_of q) (finmap.get before q)
-      (λ same. ap told_of (bytes_eq_tells q n same) ∙ ap (option_and_then (λ (x : StampedWrite). held_of (picks x) x.body)) found ∙ ap (held_of (picks w)) body ∙ nothing (picks w))
+  states_next : (n q : List ℕ) (w : StampedWrite) (es : List (List ℕ × StampedWrite)) (picked : Bool) (b : Option (List ℕ)) → told_of n ≡ held_of picked b → w.body ≡ b → IsKnown all t n w → States t told_of q (behind es) (keys es) → States t told_of q (next picked b (behind es)) (n ∷ keys es)
+  states_next n q w es picked None is body of rest = states_skip t told_of q n (behind es) (keys es) (is ∙ nothing picked) rest
     where
       nothing : (c : Bool) → held_of c None ≡ None
       nothing true = refl
       nothing false = refl
-  states_next n q w es false (Some x) picks_it body found rest before =
-      rest before ∙ skipped (bytes_eq q n) (has_text (map (λ e. e.0) es) q) (told_of q) (finmap.get before q)
-      (λ same. ap told_of (bytes_eq_tells q n same) ∙ ap (option_and_then (λ (y : StampedWrite). held_of (picks y) y.body)) found ∙ ap (λ c. held_of c w.body) picks_it)
-  states_next n q w es true (Some x) picks_it body found rest before =
-      let h : Holding = record { version = []; body = x } in
-      let r : StatedResource = sotw_stated (value_of x) in
-      let of = known n w found in
-      let same : resource_of t (value_of x) ≡ record { name = w.name; body = x } = canonical_is t (record { name = w.name; body = x }) (of.canonical x body) in
-      let stated : finmap.get (and_stated t before r) q ≡ cond (bytes_eq q n) (Some h) (finmap.get before q) =
-      ap (λ (y : NamedBody). finmap.get (finmap.insert before y.name (record { version = []; body = y.body })) q) same ∙ get-insert before w.name h q
-      ∙ ap (λ c. cond c (Some h) (finmap.get before q)) (ap (λ y. bytes_eq y q) of.named ∙ bytes_eq_swap n q) in
-      rest (and_stated t before r) ∙ ap (option_or (cond (has_text (map (λ e. e.0) es) q) (told_of q) None)) stated
-      ∙ put_on (bytes_eq q n) (has_text (map (λ e. e.0) es) q) (told_of q) (finmap.get before q) h
-      (λ equal. ap told_of (bytes_eq_tells q n equal) ∙ ap (option_and_then (λ (y : StampedWrite). held_of (picks y) y.body)) found ∙ ap (λ c. held_of c w.body) picks_it ∙ ap (held_of true) body)
+  states_next n q w es false (Some x) is body of rest = states_skip t told_of q n (behind es) (keys es) is rest
+  states_next n q w es true (Some x) is body of rest = states_put t told_of q all n w x (sotw_stated (value_of x)) (behind es) (keys es) of body refl is rest
 
-  states_all : (es : List (List ℕ × StampedWrite)) (q : List ℕ) → EachFound m es → StatesBehind es q
+  states_all : (es : List (List ℕ × StampedWrite)) (q : List ℕ) → EachFound m es → States t told_of q (behind es) (keys es)
   states_all [] q found before = refl
   states_all (e ∷ es) q found before =
       ap (λ l. finmap.get (stated_by t before l) q) (picked_next p e.1 (filter (is_shown s) (map (λ x. x.1) es)) (is_shown s e.1) (p e.1) refl)
-      ∙ states_next e.0 q e.1 es (picks e.1) e.1.body refl refl found.0 (states_all es q found.1) before
+      ∙ states_next e.0 q e.1 es (picks e.1) e.1.body (ap (option_and_then (λ (x : StampedWrite). held_of (picks x) x.body)) found.0) refl (known e.0 e.1 found.0) (states_all es q found.1) before
 
   -- what is stated of a name where these are stated
   pub picked_is : (q : List ℕ) → finmap.get (stated_by t finmap.empty (listed (filter p (content m s)))) q ≡ option_or (cond (is_some (finmap.get m q)) (told_of q) None) None
