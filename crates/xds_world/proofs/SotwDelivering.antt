@@ -154,8 +154,8 @@ removed_by false e p tells partial is = owed_removed tells (owed e p) (partial r
 never_removed : (t : TypeName) (s : Selection) (m : Entries) (b : Beliefs) (q : List ℕ) → finmap.get (offer StateOfTheWorld t s m b) q ≡ Some Removed → ⊥
 never_removed t s m b q is = removed_by (row t).is_complete (finmap.get b q) (present s m q) (is_told StateOfTheWorld t) (λ partial. partial) (sym (offer_says_it StateOfTheWorld t s m b q) ∙ is)
 
-pub offered_is : (t : TypeName) (s : Selection) (m : Entries) (b : Beliefs) (q : List ℕ) (d : Due) → finmap.get (offer StateOfTheWorld t s m b) q ≡ Some d → (version : List ℕ) × (d ≡ Stated version)
-offered_is t s m b q (Stated version) is = (version, refl)
+pub offered_is : (t : TypeName) (s : Selection) (m : Entries) (b : Beliefs) (q : List ℕ) (d : Due) → finmap.get (offer StateOfTheWorld t s m b) q ≡ Some d → (version : List ℕ) × (d ≡ Stated version) × (present s m q ≡ Some version)
+offered_is t s m b q (Stated version) is = (version, refl, stated_present StateOfTheWorld t s m b q version is)
 offered_is t s m b q Removed is = absurd (never_removed t s m b q is)
 
 says_by : (all : List TypedWrite) (t : TypeName) (h : Holdings) (s : Selection) (b : Beliefs) (known : AllKnown all t h.entries) (q : List ℕ) (removed : Bool) (stated : Option Holding) (x : Option Due) → finmap.get (offer StateOfTheWorld t s h.entries b) q ≡ x → removed ≡ false
