@@ -5,6 +5,7 @@ use Rattle.serde_json.specs.Data.{Data}
 use Rattle.xds_resource.specs.declared.refusal.Refusal.{Refusal}
 use Rattle.xds_resource.specs.declared.refusal.Refusal.TheVariants.{NotJson, BadMessage, OutOfMemory, BadTrace}
 use Rattle.xds_json.specs.Spelling.{IsJson}
+use Rattle.xds_json.proofs.Lists.{one_value}
 use Rattle.xds_check.specs.Texts.{IsJsonOf}
 use Rattle.xds_check.specs.Words.{Finds}
 
