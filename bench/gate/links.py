@@ -230,7 +230,7 @@ def check_link(target, page):
 @functools.cache
 def numbers():
     """The names of the numbers that a server or the bridge shows."""
-    files = ("xds_stats/src/pages", "xds_monitor/src/tapes", "xds_commands/src/admin", "xds_checker/src/checker", "xds_machine/src/meter", "xds_replicas/src/sourcing")
+    files = ("xds_stats/src/pages", "xds_monitor/src/tapes", "xds_admin/src/admin", "xds_checker/src/checker", "xds_machine/src/meter", "xds_upkeep/src/sourcing")
     texts = [open(f"{TOP}/crates/{file}.rt").read() for file in files]
     texts += [open(file).read() for file in glob.glob(f"{TOP}/bridge/src/*.go")]
     return set(re.findall(r'(?:["`]|# TYPE )(xds_\w+)\b', "".join(texts)))

@@ -81,7 +81,7 @@ LOOKED_AT = {
 # Calls that take no memory as these tests make them: there is room for one entry more in a row of a map.
 NONE_TAKEN = {"Core::step, Put for groups", "Core::step, Delete", "Core::step, Open", "Catalogue::delete"}
 # Crates whose tests run in threads: one that gives up may leave another waiting. With each the modules of those that don't.
-THREADED = {"xds_node_tests": (), "xds_workers_tests": (), "xds_http_tests": (), "xds_commands_tests": (), "xds_client_tests": ("caches::",)}
+THREADED = {"xds_node_tests": (), "xds_workers_tests": (), "xds_http_tests": (), "xds_server_tests": (), "xds_client_tests": ("caches::",)}
 # Tests, and modules, that tell of a difference without what was answered: of programs and traces, whose text is cut short; and of one
 # how many names a list has, which a tidying that found no memory leaves longer.
 SILENT = ("cases::streams_are_served", "faults::input_is_served_wherever_it_ends", "faults::each_read_may_fail", "faults::each_write_may_fail",

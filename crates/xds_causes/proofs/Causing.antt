@@ -12,12 +12,12 @@ use Rattle.xds_resource.specs.Resources.{IsRefused, NamedBody, parsed}
 use Rattle.xds_resource.specs.declared.types.TypeName.{TypeName}
 use Rattle.xds_resource.specs.Types.{type_of_word}
 use Rattle.xds_resource.proofs.NameMaps.{bytes_eq_same}
-use Rattle.xds_world.specs.Lines.{pieces}
-use Rattle.xds_world.specs.Words.{Text, space, split_first, words, words_in, replica_number}
-use Rattle.xds_world.specs.Commands.{groups_in}
-use Rattle.xds_world.proofs.Named.{resource_in-parsed}
-use Rattle.xds_world.proofs.ShortNumbers.{number_in-none}
-use Rattle.xds_world.proofs.Wording.{text_of-words_in}
+use Rattle.xds_script.specs.Lines.{pieces}
+use Rattle.xds_script.specs.Words.{Text, space, split_first, words, words_in, replica_number}
+use Rattle.xds_script.specs.Commands.{groups_in}
+use Rattle.xds_script.proofs.Named.{resource_in-parsed}
+use Rattle.xds_script.proofs.ShortNumbers.{number_in-none}
+use Rattle.xds_script.proofs.Wording.{text_of-words_in}
 use Rattle.xds_causes.specs.declared.cause.Cause.{Cause}
 use Rattle.xds_causes.specs.declared.cause.Cause.TheVariants.{UnknownCommand, NoNumber, WrongWords, Refused, UnknownType}
 use Rattle.xds_causes.specs.Causes.{IsTextCause, IsResourceCause, IsGroupsCause, IsBehindNumber, IsBehindVerb, IsCauseOf, IsWordsCause, is_verb, name_cause, deletion_cause}

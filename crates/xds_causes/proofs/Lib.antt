@@ -1,4 +1,5 @@
 pub mod Pieces
+pub mod WriteLines
 mod Causing
 mod FieldTests
 mod FirstWrong

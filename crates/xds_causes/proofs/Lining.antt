@@ -9,8 +9,8 @@ use Rattle.std.proofs.lemmas.List.{at_drop_all, take_all}
 use Rattle.std.proofs.lemmas.List.Sums.{position_or_len_is}
 use Rattle.xds_resource.proofs.NameMaps.{bytes_eq_same}
 use Rattle.xds_check.specs.Words.{max_stream}
-use Rattle.xds_world.specs.Words.{number_in}
-use Rattle.xds_world.proofs.ShortNumbers.{number_in-none}
+use Rattle.xds_script.specs.Words.{number_in}
+use Rattle.xds_script.proofs.ShortNumbers.{number_in-none}
 use Rattle.xds_causes.specs.declared.messages.Message.{Message}
 use Rattle.xds_causes.specs.Told.{IsMessageTold, Text}
 use Rattle.xds_causes.specs.ToldLines.{IsKindTold, IsOfMessageTold, behind, first_word, from_brace, is_brace, is_space, is_stream, message_of}

@@ -1,7 +1,7 @@
 -- The pieces of bytes between marks.
 use Rattle.std.proofs.Common.{◌≡◌, ◌==◌, ℕ, List, [], ◌∷◌, Bool, true, false, cond, refl, ap}
 use Rattle.std.specs.List.{onto_first}
-use Rattle.xds_world.specs.Lines.{pieces}
+use Rattle.xds_script.specs.Lines.{pieces}
 
 first_of : (t : Bool) (b : ℕ) (ps : List (List ℕ)) → ((o : List ℕ) × (os : List (List ℕ)) × (ps ≡ o ∷ os))
     → (o : List ℕ) × (os : List (List ℕ)) × (cond t ([] ∷ ps) (onto_first b ps) ≡ o ∷ os)

@@ -17,8 +17,8 @@ use Rattle.xds_resource.specs.declared.refusal.Refusal.TheVariants.{BadName, Bad
 use Rattle.xds_resource.specs.Refusals.{number_of, name_of}
 use Rattle.xds_resource.specs.Resources.{IsRefused}
 use Rattle.xds_resource.specs.Types.{type_of_word}
-use Rattle.xds_world.specs.Words.{Text, words, replica_number, text_of}
-use Rattle.xds_world.specs.Commands.{resource_in, groups_in}
+use Rattle.xds_script.specs.Words.{Text, words, replica_number, text_of}
+use Rattle.xds_script.specs.Commands.{resource_in, groups_in}
 use Rattle.xds_causes.specs.declared.cause.Cause.{Cause}
 use Rattle.xds_causes.specs.declared.cause.Cause.TheVariants.{NoText, UnknownCommand, NoNumber, NoSuchReplica, UnknownType, WrongWords, Refused}
 

@@ -4,3 +4,4 @@ pub mod Likeness
 pub mod PlainLines
 pub mod Told
 pub mod ToldLines
+pub mod WriteLines

@@ -42,8 +42,8 @@ use Rattle.xds_check.specs.declared.words.Verb.TheVariants as verbs
 use Rattle.xds_check.specs.Texts.{Says}
 use Rattle.xds_check.specs.Words.{max_stream}
 use Rattle.xds_check.specs.Words as traces
-use Rattle.xds_world.specs.Commands as scripts
-use Rattle.xds_world.specs.Words.{number_in}
+use Rattle.xds_script.specs.Commands as scripts
+use Rattle.xds_script.specs.Words.{number_in}
 use Rattle.xds_causes.specs.declared.cause.Cause.{Cause}
 use Rattle.xds_causes.specs.declared.cause.Cause.TheVariants.{NoText, UnknownCommand, NoNumber, NoSuchReplica, UnknownType, WrongWords, Refused}
 use Rattle.xds_causes.specs.declared.messages.Message.{Message}

@@ -3,9 +3,9 @@ ghost use Rattle.std.specs.Prelude.{◌≡◌, ◌≢◌, ◌&&◌, bytes_eq, co
 ghost use Rattle.std.specs.Option.{option_map};
 ghost use Rattle.xds_resource.specs.declared.refusal.Refusal.TheVariants.{OutOfMemory};
 ghost use Rattle.xds_resource.specs.Types.{type_of_word};
-ghost use Rattle.xds_world.specs.Words.{split_first, words, words_in, replica_number};
-ghost use Rattle.xds_world.specs.Lines.{pieces};
-ghost use Rattle.xds_world.specs.Commands.{comma, groups_in};
+ghost use Rattle.xds_script.specs.Words.{split_first, words, words_in, replica_number};
+ghost use Rattle.xds_script.specs.Lines.{pieces};
+ghost use Rattle.xds_script.specs.Commands.{comma, groups_in};
 ghost use Rattle.xds_causes.specs.Causes.{cause_text, is_verb, name_cause, deletion_cause, IsResourceCause, IsGroupsCause, IsBehindNumber, IsWordsCause, IsCauseOf};
 
 use crate::messages::said;

@@ -14,7 +14,7 @@ use serde_json::Value;
 use std::alloc::Global;
 use std::str;
 use xds_resource::Refusal;
-use xds_world::command::CommandVerb;
+use xds_script::command::CommandVerb;
 
 /// What is wrong of a line of a script that is bad, its line feed aside, in words. Refused only by `OutOfMemory`.
 pub fn script_cause(alloc: Global, line: &[u8]) -> Result<String, Refusal>

@@ -4,7 +4,7 @@ use Rattle.std.specs.Prelude.{is_err, nat_lt, if◌then◌else◌}
 use Rattle.std.specs.Option.{option_map, option_to_list, ok_or}
 use Rattle.xds_resource.specs.declared.refusal.Refusal.{Refusal}
 use Rattle.xds_resource.specs.declared.refusal.Refusal.TheVariants.{OutOfMemory, BadScript, TooLong}
-use Rattle.xds_world.specs.Commands.{Said}
+use Rattle.xds_script.specs.Commands.{Said}
 use Rattle.xds_changes.specs.Changes.{Written, written_by, only_change, most_line, change_within, change_in}
 use Rattle.xds_changes.specs.Inputs.{brought}
 

@@ -9,7 +9,7 @@ use Rattle.std.proofs.lemmas.List.{length-take-le, take-append-le, take_all}
 use Rattle.std.proofs.Math.Seq.{take-append-add, take-nil}
 use Rattle.xds_resource.specs.declared.refusal.Refusal.{Refusal}
 use Rattle.xds_resource.specs.declared.refusal.Refusal.TheVariants.{TooLong}
-use Rattle.xds_world.specs.Lines.{feed, pieces}
+use Rattle.xds_script.specs.Lines.{feed, pieces}
 use Rattle.xds_changes.specs.declared.change.Change.{Change}
 use Rattle.xds_notes.specs.declared.fault.Fault.{Fault}
 use Rattle.xds_changes.specs.declared.said_lines.Kept.{Kept}

@@ -4,4 +4,5 @@ mod Takings
 mod KeptLines
 mod LoadSteps
 pub mod Pieces
+pub mod LineReading
 pub mod Numbering

@@ -3,8 +3,8 @@ use Rattle.std.proofs.Common.{◌≡◌, arith, ℕ, List, [], ◌∷◌, length
 use Rattle.std.specs.Prelude.{◌==◌, not, is_some}
 use Rattle.std.specs.Option.{option_map}
 use Rattle.std.proofs.lemmas.List.Splits.{length-slice_split}
-use Rattle.xds_world.specs.Lines.{pieces}
-use Rattle.xds_world.specs.Words.{is_empty}
+use Rattle.xds_script.specs.Lines.{pieces}
+use Rattle.xds_script.specs.Words.{is_empty}
 use Rattle.xds_changes.specs.MarkTexts.{pieces_in}
 
 some_by : (mark : ℕ) (text : List ℕ) (ps : List (List ℕ)) → pieces mark text ≡ ps → false ≡ is_empty ps

@@ -6,7 +6,7 @@ use Rattle.std.proofs.lemmas.Grind.{flat_map-append}
 use Rattle.xds_resource.specs.declared.refusal.Refusal.{Refusal}
 use Rattle.xds_resource.specs.declared.refusal.Refusal.TheVariants.{OutOfMemory}
 use Rattle.xds_resource.proofs.Refusing.{memory_or_not}
-use Rattle.xds_world.specs.Lines.{feed, pieces}
+use Rattle.xds_script.specs.Lines.{feed, pieces}
 use Rattle.xds_changes.specs.Changes.{Written, change_in}
 use Rattle.xds_changes.specs.Inputs.{brings, is_wrong, AreTaken, AreRefused, AreEnded}
 

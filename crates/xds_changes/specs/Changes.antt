@@ -15,11 +15,11 @@ use Rattle.xds_resource.specs.declared.refusal.Refusal.TheVariants.{BadScript, T
 use Rattle.xds_core.specs.Events as events
 use Rattle.xds_core.specs.Events.{Event}
 use Rattle.xds_core.specs.Seen.{event_of}
-use Rattle.xds_world.specs.Happenings.{Happening}
-use Rattle.xds_world.specs.Happenings as happenings
-use Rattle.xds_world.specs.declared.command.Command.{Command}
-use Rattle.xds_world.specs.Commands.{Said, Happens, said_of}
-use Rattle.xds_world.specs.Scripts.{line_says}
+use Rattle.xds_script.specs.Happenings.{Happening}
+use Rattle.xds_script.specs.Happenings as happenings
+use Rattle.xds_script.specs.declared.command.Command.{Command}
+use Rattle.xds_script.specs.Commands.{Said, Happens, said_of}
+use Rattle.xds_script.specs.Scripts.{line_says}
 use Rattle.xds_changes.specs.declared.change.Change.{Change}
 
 -- a replica's number, and what happens there

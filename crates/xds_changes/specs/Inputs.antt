@@ -11,7 +11,7 @@ use Rattle.std.specs.Option.{option_to_list}
 use Rattle.std.specs.List.{flat_map}
 use Rattle.xds_resource.specs.declared.refusal.Refusal.{Refusal}
 use Rattle.xds_resource.specs.declared.refusal.Refusal.TheVariants.{OutOfMemory}
-use Rattle.xds_world.specs.Lines.{feed, pieces}
+use Rattle.xds_script.specs.Lines.{feed, pieces}
 use Rattle.xds_changes.specs.Changes.{Written, change_in}
 
 -- the write that was read, if any

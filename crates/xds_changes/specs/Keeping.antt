@@ -16,7 +16,7 @@ use Rattle.std.specs.Prelude.{◌≡◌, ◌⊎◌, ℕ, List, [], ◌∷◌, �
 use Rattle.std.specs.Io.KnownBytes.{Consumes, IsAtEnd}
 use Rattle.xds_resource.specs.declared.refusal.Refusal.{Refusal}
 use Rattle.xds_resource.specs.declared.refusal.Refusal.TheVariants.{Device, OutOfMemory}
-use Rattle.xds_world.specs.Lines.{feed, pieces}
+use Rattle.xds_script.specs.Lines.{feed, pieces}
 use Rattle.xds_changes.specs.declared.change.Change.{Change}
 use Rattle.xds_notes.specs.declared.ending.End.{End}
 use Rattle.xds_notes.specs.declared.ending.End.TheVariants.{Refused}

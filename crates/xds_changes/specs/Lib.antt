@@ -8,4 +8,5 @@ pub mod Loads
 pub mod Together
 pub mod MarkTexts
 pub mod Queries
+pub mod WriteLines
 pub mod Given

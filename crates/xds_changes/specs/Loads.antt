@@ -22,7 +22,7 @@ use Rattle.xds_resource.specs.declared.refusal.Refusal.{Refusal}
 use Rattle.xds_resource.specs.declared.refusal.Refusal.TheVariants.{BadScript, Device, OutOfMemory}
 use Rattle.xds_core.specs.Events.{Event, Put, Delete}
 use Rattle.xds_core.specs.Stores.{Batch, Store, all_entries, putting_at, deleting_at, if_done}
-use Rattle.xds_world.specs.Lines.{feed, pieces}
+use Rattle.xds_script.specs.Lines.{feed, pieces}
 use Rattle.xds_notes.specs.declared.ending.End.{End}
 use Rattle.xds_notes.specs.declared.ending.End.TheVariants.{Streams, Stopped, Line, Refused}
 use Rattle.xds_changes.specs.declared.loading.Loader.{Loader}

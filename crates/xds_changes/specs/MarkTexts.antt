@@ -12,8 +12,8 @@
 use Rattle.std.specs.Prelude.{ℕ, List, [], ◌∷◌, ◌++◌, Option, Some, None, codes, decimal, if◌then◌else◌}
 use Rattle.std.specs.Option.{option_map, option_and_then}
 use Rattle.xds_core.specs.declared.catalogues.Marks.{Marks}
-use Rattle.xds_world.specs.Lines.{pieces}
-use Rattle.xds_world.specs.Words.{number_in, is_empty}
+use Rattle.xds_script.specs.Lines.{pieces}
+use Rattle.xds_script.specs.Words.{number_in, is_empty}
 
 -- what stands between two counts
 abbrev pub dot : ℕ

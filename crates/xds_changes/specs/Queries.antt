@@ -13,8 +13,8 @@
 --     wanted_in     what a query asks for, if it asks for anything
 use Rattle.std.specs.Prelude.{ℕ, List, [], ◌∷◌, ◌==◌, length, Option, Some, None, codes, bytes_eq, if◌then◌else◌}
 use Rattle.std.specs.Option.{option_map, option_and_then}
-use Rattle.xds_world.specs.Lines.{pieces}
-use Rattle.xds_world.specs.Words.{number_in, is_empty}
+use Rattle.xds_script.specs.Lines.{pieces}
+use Rattle.xds_script.specs.Words.{number_in, is_empty}
 use Rattle.xds_changes.specs.declared.wanting.WantedWrites.{WantedWrites}
 use Rattle.xds_changes.specs.declared.wanting.Key.{Key}
 use Rattle.xds_changes.specs.declared.wanting.Key.TheVariants.{Replica, Since, Wait}

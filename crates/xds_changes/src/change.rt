@@ -3,13 +3,13 @@ ghost use Rattle.std.specs.Prelude.{◌≡◌, ◌<◌, IfOk, IfSome, Some, Matc
 ghost use Rattle.std.specs.Option.{option_map, ok_or};
 ghost use Rattle.xds_resource.specs.declared.refusal.Refusal.TheVariants.{BadScript, TooLong};
 ghost use Rattle.xds_resource.specs.Refusals.{Gives};
-ghost use Rattle.xds_world.specs.ModelSeen.{happening_of};
+ghost use Rattle.xds_script.specs.ModelSeen.{happening_of};
 ghost use Rattle.xds_changes.specs.Changes.{change_of, change_said, change_in, change_within, most_line, write_of};
 
 use std::alloc::Global;
 use xds_core::Event;
 use xds_resource::Refusal;
-use xds_world::{Command, WorldEvent, read_line};
+use xds_script::{Command, WorldEvent, read_line};
 
 /// As many bytes as a line of the input may have.
 pub const MAX_LINE: usize = 8_388_608;

@@ -1,12 +1,12 @@
 // The input's lines, as they come in pieces.
 ghost use Rattle.std.specs.Prelude.{◌≡◌, ◌∷◌, []};
-ghost use Rattle.xds_world.specs.Lines.{feed, pieces};
+ghost use Rattle.xds_script.specs.Lines.{feed, pieces};
 
 use crate::change::{Change, read_change, within_limit};
 use std::alloc::Global;
 use std::mem;
 use xds_resource::Refusal;
-use xds_world::lines::split_line;
+use xds_script::lines::split_line;
 
 /// What has come of the input's last line.
 pub struct HeldLine {
@@ -39,7 +39,7 @@ impl HeldLine {
     ghost use Rattle.std.specs.Option.{option_map};
     ghost use Rattle.xds_resource.specs.declared.refusal.Refusal.TheVariants.{OutOfMemory};
     ghost use Rattle.xds_resource.specs.Refusals.{Gives};
-    ghost use Rattle.xds_world.specs.Lines.{feed, pieces};
+    ghost use Rattle.xds_script.specs.Lines.{feed, pieces};
     ghost use Rattle.xds_changes.specs.Changes.{change_of, change_in};
     ghost use Rattle.xds_changes.specs.Inputs.{Takes, brings, is_wrong};
 

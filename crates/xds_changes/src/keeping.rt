@@ -10,7 +10,7 @@ use std::io::{ErrorKind, Read};
 use std::sync::Wait;
 use xds_notes::{End, Ending, Fault};
 use xds_resource::Refusal;
-use xds_world::lines::split_line;
+use xds_script::lines::split_line;
 
 // As many bytes as are read at once, at most.
 const PIECE: usize = 4_096;

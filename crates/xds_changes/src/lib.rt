@@ -16,6 +16,7 @@ pub mod order;
 pub mod ready_line;
 pub mod said_lines;
 pub mod wanting;
+pub mod write_lines;
 
 pub use change::{Change, MAX_LINE, read_change};
 pub use held_line::{HeldLine, TakenPiece};

@@ -1,8 +1,8 @@
 // Counts of changes as a text, and the pieces of a text.
 ghost use Rattle.std.specs.Prelude.{◌≡◌, ◌<◌, ◌∷◌, string_bytes, IfOk};
 ghost use Rattle.std.specs.Option.{option_map};
-ghost use Rattle.xds_world.specs.Lines.{pieces};
-ghost use Rattle.xds_world.specs.Words.{is_empty, number_in};
+ghost use Rattle.xds_script.specs.Lines.{pieces};
+ghost use Rattle.xds_script.specs.Words.{is_empty, number_in};
 ghost use Rattle.xds_changes.specs.MarkTexts.{count_first, marks_in, marks_text, most_count, pieces_in, split_first};
 
 use std::alloc::Global;

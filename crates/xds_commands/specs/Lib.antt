@@ -1,4 +1,1 @@
-pub mod Routes
 pub mod Servings
-pub mod Channels
-pub mod Stored

@@ -1,10 +1,8 @@
 -- What a server is asked for. This project's own.
 --     serving_of   what the words ask of a server, where its error output is a terminal or isn't
---     limits_of    what the streams of a replica may be then
 use Rattle.std.specs.Prelude.{ℕ, Bool, ◌||◌, Option}
 use Rattle.xds_program.specs.declared.tasks.ServeTask.{ServeTask}
-use Rattle.xds_monitor.specs.declared.lookout.Limits.{Limits}
-use Rattle.xds_commands.specs.declared.server.Serving.{Serving}
+use Rattle.xds_server.specs.declared.server.Serving.{Serving}
 
 -- what the words ask of a server that waits with its answers or doesn't, logs as JSON or doesn't, tells references that lead nowhere or doesn't, and refuses puts that make a response too long or doesn't, where its error output is a terminal or isn't
 abbrev pub serving_of : ServeTask → Option ℕ → Bool → Bool → Bool → Bool → Bool → Serving
@@ -26,7 +24,3 @@ serving_of task first_number hold log_json lint refuse_long is_terminal = record
   lint = lint;
   refuse_long = refuse_long;
 }
-
--- what the streams of a replica may be then
-abbrev pub limits_of : Serving → Limits
-limits_of serving = record { streams = serving.max_streams; idle_seconds = serving.idle_seconds; refuses_long = serving.refuse_long; workers = serving.workers }

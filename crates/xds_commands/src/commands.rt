@@ -4,9 +4,6 @@ ghost use Rattle.xds_frames.specs.Devices.{seen};
 ghost use Rattle.xds_tools.specs.Ends.{GoesOn};
 ghost use Rattle.xds_commands.specs.Servings.{serving_of};
 
-use crate::beginning::ServeFiles;
-use crate::progress::ProgressReader;
-use crate::server::{Serving, serve};
 use std::fs::File;
 use std::io::{Read, Write};
 use std::net::{Net, SocketAddrV4, TcpListener, TcpStream};
@@ -16,9 +13,11 @@ use xds_http::Connects;
 use xds_machine::machine::{Machine, Runtime};
 use xds_program::run::Ran;
 use xds_program::{ServeTask, ServeWords};
+use xds_server::{ServeFiles, Serving, serve};
 use xds_tools::asking::{delete_names, print_resources, print_status, put_changes};
 use xds_tools::drawing::draw;
 use xds_tools::polling::poll_once;
+use xds_tools::progress::ProgressReader;
 use xds_tools::watching::watch;
 use xds_tools::writes::print_writes;
 

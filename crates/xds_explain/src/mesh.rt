@@ -6,8 +6,8 @@ use crate::sheet::{Class, Lane, MOST_ROWS, Row, Sheet};
 use crate::texts::excerpt;
 use std::alloc::Global;
 use xds_resource::{AnyResource, Groups, Refusal, TypeName};
-use xds_world::lines::split_line;
-use xds_world::{AnswerFate, ClientKind, Command, Wish, WorldEvent, read_line};
+use xds_script::lines::split_line;
+use xds_script::{AnswerFate, ClientKind, Command, Wish, WorldEvent, read_line};
 
 // Where the first lane stands, how far lanes are apart, and how much room the last one has for texts.
 const FIRST: u64 = 130;

@@ -2,6 +2,7 @@
 // what it uses.
 #![tactic(auto)]
 
+pub mod bearing;
 pub mod deadline;
 pub mod door;
 pub mod files;

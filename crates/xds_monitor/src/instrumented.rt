@@ -5,7 +5,6 @@ use crate::journal_weight::JournalWeight;
 use crate::observer::Observer;
 use crate::recording::Piece;
 use crate::segment_sink::SegmentSink;
-use crate::served::Served;
 use futures::task::{Context, Poll};
 use std::alloc::Global;
 use std::sync::Wait;
@@ -15,6 +14,7 @@ use xds_http::{Replies, Seats};
 use xds_node::{Host, Unrecorded, WaitEnd};
 use xds_polls::HttpReply;
 use xds_resource::Refusal;
+use xds_rest::served::Served;
 use xds_rest::{Posts, reply_at};
 use xds_stats::sight::Sight;
 

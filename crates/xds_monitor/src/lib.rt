@@ -4,28 +4,24 @@
 
 pub mod instrumented;
 pub mod journal_weight;
-pub mod lookout;
 pub mod observer;
 pub mod recorder;
 pub mod recording;
 pub mod reel;
 pub mod response;
 pub mod segment_sink;
-pub mod served;
 pub mod tapes;
 pub mod turns;
 mod weights;
 
 pub use instrumented::Instrumented;
 pub use journal_weight::{JournalWeight, MOST_BYTES};
-pub use lookout::{Limits, Lookout};
 pub use observer::Observer;
 pub use recorder::{Recorder, Tape};
 pub use recording::{Piece, Recording};
 pub use reel::{Reel, Seals, UNSEALED};
 pub use response::response_at;
 pub use segment_sink::SegmentSink;
-pub use served::Served;
 pub use tapes::{
     PRIVATE, TapeFault, Unrecordable, recorded_text, recordings_text, running_text, tape_line,
     tapes_in,

@@ -2,13 +2,13 @@
 ghost use Rattle.std.specs.Prelude.{◌≡◌};
 ghost use Rattle.xds_stats.specs.Boards.{stream_of};
 
-use crate::lookout::Lookout;
 use crate::turns::Turns;
 use std::alloc::Global;
 use std::sync::{Arc, Mutex, MutexGuard, Wait};
 use std::time::Clock;
 use xds_core::{Event, Reply};
 use xds_node::Unrecorded;
+use xds_notes::lookout::Lookout;
 use xds_resource::Refusal;
 use xds_stats::moment::Moment;
 use xds_stats::sight::{Sight, sight_of};

@@ -3,7 +3,6 @@ ghost use Rattle.xds_monitor.specs.Responses.{IsResponseAt};
 
 use crate::instrumented::Instrumented;
 use crate::recording::Piece;
-use crate::served::Served;
 use bytes::Bytes;
 use http::Response;
 use http_body_util::Full;
@@ -12,6 +11,7 @@ use std::sync::Wait;
 use std::time::Clock;
 use xds_http::service::answer;
 use xds_node::Host;
+use xds_rest::served::Served;
 
 /// The response to a post of this body at this path, as the server's connections give it: the status and the body of the replica's
 /// reply to it, by a seat of its own. 503 where there is none, or no memory for the response. It may wait.

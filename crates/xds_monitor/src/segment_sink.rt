@@ -1,9 +1,9 @@
 // Where the segments of a replica's journal go.
-use crate::lookout::Lookout;
 use crate::recorder::Tape;
 use crate::recording::Piece;
 use std::sync::{Arc, Wait};
 use xds_node::Host;
+use xds_notes::lookout::Lookout;
 use xds_resource::Refusal;
 
 /// Where the segments of a replica's journal go: to a tape, if there is one, and else nowhere.

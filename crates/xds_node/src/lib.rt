@@ -25,7 +25,7 @@ pub use replication::from_peer::exchange_in;
 pub use replication::parcels::{Parcel, Receipt};
 pub use replication::to_peer::exchange_out;
 pub use replication::two_nodes::{Exchanged, exchange_both};
-pub use streams::hosts::{Gate, Host, Place};
+pub use streams::hosts::{Gate, Host, NoGate, Place};
 pub use streams::known::{KnownRead, KnownWrite};
 pub use streams::poll_reader::{ReadEnd, Reading, ReadingHalf, poll_requests};
 pub use streams::poll_writer::{WriteEnd, Writing, WritingHalf, poll_responses};

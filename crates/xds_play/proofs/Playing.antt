@@ -1,7 +1,7 @@
 -- Commands that are played one after the other.
 use Rattle.std.proofs.Common.{List, [], ◌∷◌, refl}
 use Rattle.xds_cache.specs.Faults.{Test}
-use Rattle.xds_world.specs.Commands.{Said}
+use Rattle.xds_script.specs.Commands.{Said}
 use Rattle.xds_play.specs.Played.{Played, Plays, PlaysAll, nothing_played}
 
 -- whatever the rest comes to from here, all come to it from the start

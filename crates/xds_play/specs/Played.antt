@@ -12,12 +12,12 @@
 use Rattle.std.specs.Prelude.{◌≡◌, ℕ, List, [], ◌∷◌, ◌++◌, Some, ⊤}
 use Rattle.xds_cache.specs.Faults.{Test}
 use Rattle.xds_cache.specs.Marks.{is_unmarked}
-use Rattle.xds_world.specs.Happenings.{Happening}
+use Rattle.xds_script.specs.Happenings.{Happening}
 use Rattle.xds_world.specs.Settling.{IsAddedToSettle}
 use Rattle.xds_world.specs.Worlds.{world}
-use Rattle.xds_world.specs.Lines.{lines}
-use Rattle.xds_world.specs.Commands.{Said, Happens, Settles, Shows, Lists}
-use Rattle.xds_world.specs.Scripts.{IsScript, first_bad}
+use Rattle.xds_script.specs.Lines.{lines}
+use Rattle.xds_script.specs.Commands.{Said, Happens, Settles, Shows, Lists}
+use Rattle.xds_script.specs.Scripts.{IsScript, first_bad}
 use Rattle.xds_play.specs.Shown.{view_shown, content_shown}
 use Rattle.xds_play.specs.declared.play.Unplayed.{Unplayed}
 use Rattle.xds_play.specs.declared.play.Unplayed.TheVariants.{BadScript, OutOfMemory}

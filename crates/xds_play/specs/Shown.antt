@@ -24,8 +24,8 @@ use Rattle.xds_catalogue.specs.Holdings.{Holdings}
 use Rattle.xds_catalogue.specs.Content.{is_live}
 use Rattle.xds_cache.specs.Shelves.{Cache, Holding}
 use Rattle.xds_cache.specs.Clients as clients
-use Rattle.xds_world.specs.declared.event.ClientKind.{ClientKind}
-use Rattle.xds_world.specs.declared.event.ClientKind.TheVariants as kinds
+use Rattle.xds_script.specs.declared.event.ClientKind.{ClientKind}
+use Rattle.xds_script.specs.declared.event.ClientKind.TheVariants as kinds
 use Rattle.xds_world.specs.Worlds.{World, Peer}
 use Rattle.xds_world.specs.Claims.{is_settled}
 use Rattle.xds_world.specs.declared.peer.PeerStatus.{PeerStatus}

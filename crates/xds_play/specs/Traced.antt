@@ -5,8 +5,8 @@ use Rattle.std.specs.Prelude.{◌≡◌, ℕ, List, []}
 use Rattle.std.specs.Option.{option_map_or}
 use Rattle.std.specs.FinMap as finmap
 use Rattle.xds_world.specs.Worlds.{world}
-use Rattle.xds_world.specs.Commands.{Said}
-use Rattle.xds_world.specs.Scripts.{IsScript}
+use Rattle.xds_script.specs.Commands.{Said}
+use Rattle.xds_script.specs.Scripts.{IsScript}
 use Rattle.xds_play.specs.Played.{Played, PlaysAll, nothing_played, takes}
 use Rattle.xds_check.specs.Texts.{trace_text}
 use Rattle.xds_trace.specs.Sites.{trace_at}

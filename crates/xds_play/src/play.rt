@@ -2,10 +2,10 @@
 ghost use Rattle.std.specs.Prelude.{◌≡◌, ◌++◌, IfOk, IfErr, OnOk, List, map, string_bytes};
 ghost use Rattle.xds_resource.specs.declared.refusal.Refusal.TheVariants.{OutOfMemory};
 ghost use Rattle.xds_resource.specs.PerType.{at};
-ghost use Rattle.xds_world.specs.Happenings.{Happening};
+ghost use Rattle.xds_script.specs.Happenings.{Happening};
 ghost use Rattle.xds_world.specs.Settling.{IsAddedToSettle};
 ghost use Rattle.xds_world.specs.Worlds.{world as world_of};
-ghost use Rattle.xds_world.specs.Commands.{said_of};
+ghost use Rattle.xds_script.specs.Commands.{said_of};
 ghost use Rattle.xds_play.specs.Shown.{view_shown, content_shown, content_text, none_text, state_of};
 ghost use Rattle.xds_play.specs.Played.{Plays, PlaysAll, Prints, IsPlayed, IsUnplayed, nothing_played, takes};
 
@@ -15,9 +15,8 @@ use std::slice;
 use xds_cache::Marked;
 use xds_message::Batch;
 use xds_resource::{Refusal, TypeName};
-use xds_world::{
-    Command, PeerStatus, Unsettled, World, WorldEvent, more, play, read_script, settle,
-};
+use xds_script::{Command, WorldEvent, read_script};
+use xds_world::{PeerStatus, Unsettled, World, more, play, settle};
 
 /// Why a script isn't played.
 #[derive(Clone, Copy, Debug, PartialEq, Eq)]

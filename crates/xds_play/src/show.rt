@@ -10,7 +10,7 @@ ghost use Rattle.xds_play.specs.Shown.{holding_line, holding_lines, view_head, v
 use std::alloc::Global;
 use xds_cache::{Cache, Holding};
 use xds_resource::{Refusal, ResourceType, TypeName, Write};
-use xds_world::ClientKind;
+use xds_script::ClientKind;
 
 /// Adds a client's view of a type to the text. `state` is the word for how the client stands to the type.
 pub fn show_view(

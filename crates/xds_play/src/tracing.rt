@@ -1,15 +1,15 @@
 // The trace of a replica of the world that a script leads to.
 ghost use Rattle.std.specs.Prelude.{◌≡◌, IfOk, IfErr, map, string_bytes};
 ghost use Rattle.xds_resource.specs.declared.refusal.Refusal.TheVariants.{OutOfMemory};
-ghost use Rattle.xds_world.specs.Commands.{said_of};
+ghost use Rattle.xds_script.specs.Commands.{said_of};
 ghost use Rattle.xds_play.specs.Played.{IsUnplayed};
 ghost use Rattle.xds_play.specs.Traced.{Traces, IsTraced};
 
 use crate::play::{Play, Unplayed, play_all};
 use std::alloc::Global;
 use xds_resource::Refusal;
+use xds_script::{Command, read_script};
 use xds_trace::of_world;
-use xds_world::{Command, read_script};
 
 /// Reads a script and plays it. Answers the trace of a replica: its lines, each with a line feed; nothing where there is no such
 /// replica.

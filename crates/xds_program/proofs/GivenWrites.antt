@@ -6,11 +6,12 @@ use Rattle.xds_resource.proofs.TypesApart.{at-each}
 use Rattle.xds_catalogue.specs.Holdings.{Holdings, nothing_held}
 use Rattle.xds_catalogue.specs.Joins.{joined}
 use Rattle.xds_catalogue.proofs.OneWrite.{joined-nothing}
-use Rattle.xds_world.specs.Lines.{feed, lines, pieces}
-use Rattle.xds_program.specs.Faults.{AreWriteLines, IsWriteLine}
+use Rattle.xds_script.specs.Lines.{feed, lines, pieces}
+use Rattle.xds_causes.specs.WriteLines.{AreWriteLines, IsWriteLine}
 use Rattle.xds_program.specs.Gathered.{IsReadTo}
 use Rattle.xds_program.specs.Stamped.{AreLeft, write_lines}
-use Rattle.xds_program.proofs.Reading.{AreWriteLines-push, held_of-push}
+use Rattle.xds_causes.proofs.WriteLines.{AreWriteLines-push}
+use Rattle.xds_program.proofs.Reading.{held_of-push}
 
 some_lines : (input : List ℕ) → (input ≡ [] → ⊥) → write_lines input ≡ lines input
 some_lines [] some = absurd (some refl)

@@ -24,19 +24,15 @@ use Rattle.xds_catalogue.proofs.Catalogues.{catalogue_of-IsCatalogue}
 use Rattle.xds_catalogue.proofs.Joining.{joined_again}
 use Rattle.xds_catalogue.proofs.OneWrite.{joined-nothing}
 use Rattle.xds_message.specs.Messages.{Request}
-use Rattle.xds_world.specs.Lines.{feed, pieces, without_last_feed}
+use Rattle.xds_script.specs.Lines.{feed, pieces, without_last_feed}
 use Rattle.xds_program.specs.Answers.{held_of, response_by, answer_text}
-use Rattle.xds_program.specs.Faults.{IsWriteLine, IsRequestLine, AreWriteLines, RefusesWrite, RefusesRequest, IsAnswer, IsFault}
+use Rattle.xds_causes.specs.WriteLines.{AreWriteLines, IsWriteLine}
+use Rattle.xds_causes.proofs.WriteLines.{AreWriteLines-push}
+use Rattle.xds_program.specs.Faults.{IsRequestLine, RefusesWrite, RefusesRequest, IsAnswer, IsFault}
 use Rattle.xds_program.specs.Gathered.{IsReadTo, IsGathered, WhereReadTo}
 use Rattle.xds_program.proofs.Responding.{response_by-same}
 
 -- ---- lists that grow by one
-
-pub AreWriteLines-push : (ls : List (List ℕ)) (xs : List TypedWrite) (l : List ℕ) (x : TypedWrite) → AreWriteLines ls xs → IsWriteLine l x → AreWriteLines (ls ++ l ∷ []) (xs ++ x ∷ [])
-AreWriteLines-push [] [] l x h is = (is, tt)
-AreWriteLines-push [] (y ∷ xs) l x h is = absurd h
-AreWriteLines-push (k ∷ ls) [] l x h is = absurd h
-AreWriteLines-push (k ∷ ls) (y ∷ xs) l x h is = (h.0, AreWriteLines-push ls xs l x h.1 is)
 
 one_if : (b : Bool) (x : TypedWrite) → map (λ (y : TypedWrite). y.1) (cond b (x ∷ []) []) ≡ cond b (x.1 ∷ []) []
 one_if true x = refl

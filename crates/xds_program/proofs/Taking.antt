@@ -11,7 +11,8 @@ use Rattle.xds_resource.specs.TypedWrites.{TypedWrite}
 use Rattle.xds_resource.proofs.Refusing.{memory_or_not}
 use Rattle.xds_catalogue.specs.Holdings.{Holdings}
 use Rattle.xds_catalogue.specs.Joins.{joined}
-use Rattle.xds_program.specs.Faults.{IsWriteLine, RefusesWrite}
+use Rattle.xds_causes.specs.WriteLines.{IsWriteLine}
+use Rattle.xds_program.specs.Faults.{RefusesWrite}
 
 abbrev one_condition : {A : Type 0} → Bool → A → Result A Refusal
 one_condition b a = unless_refused ((b, CounterSpent) ∷ []) a

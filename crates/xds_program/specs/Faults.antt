@@ -1,7 +1,5 @@
 -- Which inputs of `xds answer` are answered, and which line of the others is at fault: stamped writes, a line each, and
 -- the request on the last line. This project's own.
---     IsWriteLine      the line is JSON that spells the write
---     AreWriteLines    each line is the write at its place
 --     IsRequestLine    the line is JSON that spells the request, and the request names a type
 --     IsAnswer         the bytes are the answer to an input of good lines alone
 --     RefusesWrite     why a line is refused as a write, by what is held of each type before it
@@ -21,19 +19,9 @@ use Rattle.xds_message.specs.Messages.{Request, SpellsRequest}
 use Rattle.xds_message.specs.StampedWrites.{SpellsWrite}
 use Rattle.xds_catalogue.specs.Holdings.{Holdings}
 use Rattle.xds_catalogue.specs.Joins.{joined}
-use Rattle.xds_world.specs.Lines.{lines}
+use Rattle.xds_script.specs.Lines.{lines}
+use Rattle.xds_causes.specs.WriteLines.{AreWriteLines, IsWriteLine}
 use Rattle.xds_program.specs.Answers.{held_of, answer}
-
--- the line is JSON that spells the write
-abbrev pub IsWriteLine : List ℕ → TypedWrite → Type 0
-IsWriteLine line x = (d : Data) × IsJson line d × SpellsWrite d x.0 x.1
-
--- each line is the write at its place
-abbrev pub AreWriteLines : List (List ℕ) → List TypedWrite → Type 0
-AreWriteLines [] [] = ⊤
-AreWriteLines [] (x ∷ xs) = ⊥
-AreWriteLines (line ∷ ls) [] = ⊥
-AreWriteLines (line ∷ ls) (x ∷ xs) = IsWriteLine line x × AreWriteLines ls xs
 
 -- the line is JSON that spells the request, and the request names a type
 abbrev pub IsRequestLine : List ℕ → Request → Type 0

@@ -8,9 +8,10 @@ use Rattle.xds_resource.specs.declared.refusal.Refusal.TheVariants.{OutOfMemory}
 use Rattle.xds_resource.specs.TypedWrites.{TypedWrite}
 use Rattle.xds_catalogue.specs.Holdings.{Holdings, IsCatalogue}
 use Rattle.xds_message.specs.Messages.{Request}
-use Rattle.xds_world.specs.Lines.{feed, lines, pieces}
+use Rattle.xds_script.specs.Lines.{feed, lines, pieces}
 use Rattle.xds_program.specs.Answers.{held_of, response_by, answer_text}
-use Rattle.xds_program.specs.Faults.{AreWriteLines, IsAnswer, IsFault}
+use Rattle.xds_causes.specs.WriteLines.{AreWriteLines}
+use Rattle.xds_program.specs.Faults.{IsAnswer, IsFault}
 
 -- The lines before the rest spell writes, this is what is held once those came, and the rest begins with the line of this
 -- number.

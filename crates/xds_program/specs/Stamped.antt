@@ -7,9 +7,10 @@ use Rattle.xds_resource.specs.declared.types.TypeName.{TypeName}
 use Rattle.xds_resource.specs.declared.refusal.Refusal.{Refusal}
 use Rattle.xds_resource.specs.TypedWrites.{TypedWrite}
 use Rattle.xds_catalogue.specs.Holdings.{Holdings}
-use Rattle.xds_world.specs.Lines.{lines}
+use Rattle.xds_script.specs.Lines.{lines}
 use Rattle.xds_program.specs.Answers.{held_of}
-use Rattle.xds_program.specs.Faults.{AreWriteLines, RefusesWrite}
+use Rattle.xds_causes.specs.WriteLines.{AreWriteLines}
+use Rattle.xds_program.specs.Faults.{RefusesWrite}
 
 -- the lines of a file, the last of which needs no line feed; no bytes are no line
 abbrev pub write_lines : List ℕ → List (List ℕ)

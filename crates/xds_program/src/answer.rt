@@ -8,8 +8,9 @@ ghost use Rattle.xds_core.specs.Streams.{cluster_in};
 ghost use Rattle.xds_program.specs.Answers.{response_to, response_by, response_with, answer_text};
 ghost use Rattle.xds_program.specs.Faults.{IsAnswer, IsFault};
 
-use crate::gathering::{GatheredInput, LineFault, Looked, gather, gather_freeing};
+use crate::gathering::{GatheredInput, Looked, gather, gather_freeing};
 use std::alloc::Global;
+use xds_causes::LineFault;
 use xds_core::Catalogues;
 use xds_interest::{ClusterText, Interest};
 use xds_ledger::texts::{interest_version, nonce_text};

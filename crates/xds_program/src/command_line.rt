@@ -11,6 +11,7 @@ ghost use Rattle.xds_program.specs.CommandLine.{status_command, with_default, wa
 use crate::help;
 use clap::{Arg, ArgAction, Command, value_parser};
 use std::alloc::{AllocError, Global};
+use xds_stats::VERSION;
 
 // What `--addr` of a client says.
 const SERVES_AT: &str = "Where a replica serves, as in 127.0.0.1:18000";
@@ -53,7 +54,7 @@ fn wanting_command<'a>(alloc: Global) -> Command<'a>
     Command::new(alloc, "xds")
         .about("A replicated control plane of Envoy's xDS protocol")
         .after_help(help::PROGRAM)
-        .version(help::VERSION)
+        .version(VERSION)
         .subcommand_required(true)
 }
 

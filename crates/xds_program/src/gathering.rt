@@ -4,23 +4,17 @@ ghost use Rattle.xds_resource.specs.PerType.{at, with_at, each};
 ghost use Rattle.xds_resource.specs.TypedWrites.{TypedWrite};
 ghost use Rattle.xds_catalogue.specs.Holdings.{nothing_held};
 ghost use Rattle.xds_catalogue.specs.Joins.{joined};
-ghost use Rattle.xds_world.specs.Lines.{feed, pieces};
-ghost use Rattle.xds_program.specs.Faults.{IsWriteLine, IsRequestLine, RefusesWrite, RefusesRequest, IsFault};
+ghost use Rattle.xds_script.specs.Lines.{feed, pieces};
+ghost use Rattle.xds_causes.specs.WriteLines.{IsWriteLine};
+ghost use Rattle.xds_program.specs.Faults.{IsRequestLine, RefusesWrite, RefusesRequest, IsFault};
 ghost use Rattle.xds_program.specs.Gathered.{IsGathered, IsReadTo, WhereReadTo};
 
 use std::alloc::Global;
+use xds_causes::LineFault;
 use xds_core::Catalogues;
 use xds_message::{DiscoveryRequest, WriteReader};
 use xds_resource::Refusal;
-use xds_world::lines::{split_line, without_last_feed};
-
-/// Which line of an input is refused, and why.
-#[derive(Clone, Copy, Debug, PartialEq, Eq)]
-pub struct LineFault {
-    /// The number of the line, from 1.
-    pub line: usize,
-    pub refusal: Refusal,
-}
+use xds_script::lines::{split_line, without_last_feed};
 
 /// The line of an input that was looked at last, kept for who tells why it is refused. Nothing rests on it but what is told.
 pub struct Looked {

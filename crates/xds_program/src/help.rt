@@ -1,9 +1,6 @@
 // What `--help` says behind the options: an example, what is read and printed, and the statuses.
 // No line is wider than 80 columns.
 
-/// What `xds --version` says behind the name of the program.
-pub const VERSION: &str = "0.1.0";
-
 /// At the end of `xds --help`.
 pub(crate) const PROGRAM: &str = "Example, in the repository's top folder, and what it prints:
   ./xds check < examples/mesh_broken.trace

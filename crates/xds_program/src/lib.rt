@@ -21,8 +21,7 @@ pub mod wrong_values;
 
 pub use answer::{answer_lines, draft_answer};
 pub use drawn::Drawing;
-pub use gathering::{LineFault, Looked};
-pub use help::VERSION;
+pub use gathering::Looked;
 pub use stamped::read_writes;
 pub use tasks::{
     AskedVariant, CheckTask, ClientTask, DeleteTask, GetTask, PlayTask, PollTask, PutTask,

@@ -2,12 +2,12 @@
 ghost use Rattle.std.specs.Prelude.{◌≡◌, IfOk, IfErr, Some, string_bytes};
 ghost use Rattle.xds_program.specs.SoFar.{cut_text};
 
-use crate::gathering::{LineFault, Looked};
+use crate::gathering::Looked;
 use crate::judge::Unjudged;
 use crate::tail::nth_line;
 use std::alloc::Global;
 use std::mem;
-use xds_causes::{Message, message_cause, script_cause, trace_cause};
+use xds_causes::{LineFault, Message, message_cause, script_cause, trace_cause};
 use xds_resource::Refusal;
 
 /// Leaves a cause in place of another.

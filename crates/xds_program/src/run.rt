@@ -10,7 +10,7 @@ ghost use Rattle.xds_program.specs.SoFar.{IsToldOf, TellsSoFar, cut_text};
 
 use crate::answer::draft_answer;
 use crate::drawn::{Drawing, draw, drawn_or_done, explained, put_picture};
-use crate::gathering::{LineFault, Looked};
+use crate::gathering::Looked;
 use crate::judge::{
     NoVerdict, SoFar, TraceVerdict, Unjudged, judge_input, judge_so_far, verdict_on, whole_lines,
 };
@@ -28,7 +28,7 @@ use crate::words::task_of;
 use clap::error::ErrorKind;
 use std::alloc::{AllocError, Global};
 use std::io::{Read, Write};
-use xds_causes::plain_line;
+use xds_causes::{LineFault, plain_line};
 use xds_explain::script_picture;
 use xds_frames::{Counted, read_whole, write_whole};
 use xds_play::{Unplayed, play_script, trace_script};

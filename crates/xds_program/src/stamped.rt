@@ -4,10 +4,11 @@ ghost use Rattle.xds_resource.specs.PerType.{at};
 ghost use Rattle.xds_program.specs.Gathered.{IsReadTo};
 ghost use Rattle.xds_program.specs.Stamped.{AreLeft, IsWriteFault};
 
-use crate::gathering::{InputReading, LineFault, begin, take_write};
+use crate::gathering::{InputReading, begin, take_write};
 use std::alloc::Global;
+use xds_causes::LineFault;
 use xds_core::Catalogues;
-use xds_world::lines::{split_line, without_last_feed};
+use xds_script::lines::{split_line, without_last_feed};
 
 // rule: loaded-first
 /// What the stamped writes of a file leave, a line each as `xds writes` prints them, the last of which needs no line feed. A file without

@@ -1,6 +1,6 @@
 // The line of an input that is refused, kept for who tells why.
 use std::alloc::Global;
-use xds_world::lines::split_line;
+use xds_script::lines::split_line;
 
 /// The line of an input that is read in pieces which is refused, once one is: it holds the beginning of the line that isn't ended, and
 /// counts the lines before it. Nothing rests on it but what is told.

@@ -4,9 +4,10 @@ use std::io;
 use std::io::{ErrorKind, Read, Write};
 use std::test::Fail;
 use xds_cases::cases::{Outcome, hold, hold_stories, replaced, unfolded, words_of, written_out};
+use xds_causes::LineFault;
 use xds_frames::Counted;
 use xds_program::run::{Ran, run};
-use xds_program::{Drawing, LineFault, answer_lines};
+use xds_program::{Drawing, answer_lines};
 use xds_resource::Refusal;
 
 // The words of a command line, the program's name first.

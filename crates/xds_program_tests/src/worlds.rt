@@ -3,7 +3,8 @@ use std::alloc::Global;
 use std::test::Fail;
 use xds_cache::AcceptAll;
 use xds_resource::{AnyResource, Groups, Refusal, TypeName};
-use xds_world::{ClientKind, Unsettled, Wish, World, WorldEvent, more, play, settle};
+use xds_script::{ClientKind, Wish, WorldEvent};
+use xds_world::{Unsettled, World, more, play, settle};
 
 const CLUSTER: &str =
     r#"{"@type":"type.googleapis.com/envoy.config.cluster.v3.Cluster","name":"a"}"#;

@@ -2,22 +2,22 @@
 --     change_after    the count of changes once one more is made
 --     long_fault      that a response of this type of so many bytes is too long
 --     put_fault       why a put isn't made over the writes of its type after so many changes, if it isn't
---     looked_write    the write of a resource that is looked at: its stamp and its groups count for nothing
 --     resource_fault  why a resource of a type isn't put over a batch after so many changes of each type, if it isn't
 --     grown_bytes     how many bytes the response of writes has that are in the place of others, if it is refused for that
 --     grown_fault     why writes of a type aren't taken in the place of others, if they aren't
 --     start_fault     why writes of all types aren't: of the first type of which they aren't
-use Rattle.std.specs.Prelude.{ℕ, ◌+◌, ◌-◌, ◌^◌, min, length, List, [], Option, Some, None}
+use Rattle.std.specs.Prelude.{ℕ, ◌+◌, ◌-◌, ◌^◌, min, length, List, Option, Some, None}
 use Rattle.std.specs.Option.{option_map, option_or}
 use Rattle.xds_resource.specs.declared.refusal.Refusal.TheVariants.{FrameTooLong}
 use Rattle.xds_resource.specs.declared.types.TypeName.{TypeName}
 use Rattle.xds_resource.specs.declared.types.TypeName.TheVariants.{Cluster, Endpoint, Listener, Route, Secret}
 use Rattle.xds_resource.specs.PerType.{PerType, at}
-use Rattle.xds_resource.specs.Resources.{NamedBody, written}
+use Rattle.xds_resource.specs.Resources.{NamedBody}
 use Rattle.xds_resource.specs.Writes.{StampedWrite}
 use Rattle.xds_core.specs.Stores.{Batch}
 use Rattle.xds_stats.specs.Sizes.{beyond_by, last_response, refused_bytes, response_bytes}
 use Rattle.xds_notes.specs.declared.fault.Fault.{Fault}
+use Rattle.xds_upkeep.specs.Linting.{looked_write}
 
 -- the count of changes once one more is made
 abbrev pub change_after : ℕ → ℕ
@@ -30,10 +30,6 @@ long_fault kind bytes = record { refusal = FrameTooLong; cause = None; long = So
 -- why a put isn't made over the writes of its type after so many changes, if it isn't
 abbrev pub put_fault : TypeName → ℕ → ℕ → StampedWrite → List StampedWrite → Option Fault
 put_fault kind replica changes put ws = option_map (long_fault kind) (beyond_by kind replica (change_after changes) put ws)
-
--- the write of a resource that is looked at: its stamp and its groups count for nothing
-abbrev pub looked_write : NamedBody → StampedWrite
-looked_write r = written 1 1 r []
 
 -- why a resource of a type isn't put over a batch after so many changes of each type, if it isn't
 abbrev pub resource_fault : ℕ → PerType ℕ → Batch → TypeName → NamedBody → Option Fault

@@ -1,23 +1,23 @@
 // Puts that are refused, where a server is asked for that: those by which the whole response of their type would be too long for a frame.
-ghost use Rattle.std.specs.Prelude.{◌≡◌, ◌++◌, codes, IfOk, string_bytes};
+ghost use Rattle.std.specs.Prelude.{◌≡◌, IfOk};
 ghost use Rattle.std.specs.Option.{option_or};
 ghost use Rattle.xds_core.specs.Counts.{counts_of};
 ghost use Rattle.xds_resource.specs.Any.{named_body, resource_type};
-ghost use Rattle.xds_replicas.specs.Fitting.{grown_fault, looked_write, put_fault, resource_fault, start_fault};
-ghost use Rattle.xds_stats.specs.Sizes.{long_text};
-ghost use Rattle.xds_replicas.specs.Lines.{refusal_behind, refused_text};
+ghost use Rattle.xds_replicas.specs.Fitting.{grown_fault, put_fault, resource_fault, start_fault};
+ghost use Rattle.xds_upkeep.specs.Linting.{looked_write};
 
 use crate::replica::make_change;
-use crate::storing::changed_since;
 use std::alloc::Global;
 use std::sync::Wait;
 use xds_changes::change::Change;
 use xds_core::{Event, Marks};
 use xds_message::Batch;
-use xds_monitor::{Lookout, Served};
-use xds_notes::{Fault, LongResponse};
-use xds_resource::{AnyResource, Groups, Refusal, Resource, ResourceType, Stamp, TypeName, Write};
-use xds_stats::{beyond_by, long_text, longest_bytes, refused_bytes};
+use xds_notes::{Fault, Lookout};
+use xds_resource::{AnyResource, Refusal, Resource, ResourceType, Stamp, TypeName, Write};
+use xds_rest::Served;
+use xds_stats::{beyond_by, longest_bytes, refused_bytes};
+use xds_upkeep::linting::put_of;
+use xds_upkeep::storing::changed_since;
 
 // More changes than there are.
 const ALL: u64 = u64::MAX;
@@ -134,21 +134,10 @@ fn put_over<T: ResourceType>(
 ) -> Result<Option<Fault>, Refusal>
     ensures { IfOk result (λ o. o ≡ put_fault T.TYPE number changes (looked_write resource.now) held.now) }
 {
-    let put = write_of(alloc, resource)?;
+    let put = put_of(alloc, resource)?;
     let fault = fault_over(alloc, number, changes, held, &put);
     drop(put);
     fault
-}
-
-// A write that puts a resource. Its stamp and its groups count for nothing.
-pub fn write_of<T: ResourceType>(alloc: Global, resource: &Resource<T>) -> Result<Write<T>, Refusal>
-    ensures { IfOk result (λ w. w ≡ looked_write resource.now) }
-{
-    let stamp = Stamp {
-        counter: 1,
-        writer: 1,
-    };
-    Ok(Write::put(stamp, resource.try_copy(alloc)?, Groups::none()))
 }
 
 // Why a put isn't made over the writes of its type after so many changes, if it isn't.
@@ -267,7 +256,7 @@ fn put_among<T: ResourceType>(
     writes: &mut Vec<Write<T>>,
     resource: &Resource<T>,
 ) -> Result<(), Refusal> {
-    let put = write_of(alloc, resource)?;
+    let put = put_of(alloc, resource)?;
     take_name(writes, resource.name());
     match writes.push(put) {
         Ok(()) => Ok(()),
@@ -384,35 +373,4 @@ fn grown_fault<T: ResourceType>(
         Some(bytes) => Ok(Some(Fault::by_length(T::TYPE, bytes))),
         None => Ok(None),
     }
-}
-
-/// A refusal behind what it is of, with what is known of it, without the end of a line.
-pub fn refused_text(alloc: Global, of: &str, fault: Fault) -> Result<String, Refusal>
-    ensures { IfOk result (λ t. string_bytes t ≡ refused_text of.now fault) }
-{
-    let text = refusal_behind(alloc, of, fault.refusal)?;
-    match fault.long {
-        Some(long) => long_behind(alloc, text, long),
-        None => Ok(text),
-    }
-}
-
-// A refusal behind what it is of.
-fn refusal_behind(alloc: Global, of: &str, refusal: Refusal) -> Result<String, Refusal>
-    ensures { IfOk result (λ t. string_bytes t ≡ refusal_behind of.now refusal) }
-{
-    let number = refusal.number();
-    let name = refusal.name();
-    Ok(format!(in alloc; "{of}: {number} {name}")?)
-}
-
-// How long the response would be, behind a refusal.
-fn long_behind(alloc: Global, text: String, long: LongResponse) -> Result<String, Refusal>
-    ensures { IfOk result (λ t. string_bytes t ≡ string_bytes text ++ (codes ": " ++ long_text long.kind long.bytes)) }
-{
-    let why = long_text(alloc, long.kind, long.bytes)?;
-    let mut text = text;
-    text.push_str(": ")?;
-    text.push_str(why.as_str())?;
-    Ok(text)
 }

@@ -4,8 +4,6 @@ ghost use Rattle.std.specs.Result.{result_err};
 ghost use Rattle.xds_replicas.specs.Replies.{refusal_in};
 
 use crate::fitting::make_fitting;
-use crate::moves::{HearsMoves, Moves};
-use crate::storing::{Follows, Storage, changed_since, marks_now};
 use crate::together::make_all;
 use crate::workers::{Shared, place};
 use crossbeam_channel::Receiver;
@@ -22,13 +20,15 @@ use xds_machine::machine::{Machine, Runtime};
 use xds_machine::threads::{share, shares, start_worker};
 use xds_machine::wires::{Bound, both};
 use xds_message::Batch;
-use xds_monitor::{Lookout, Served};
-use xds_node::{Host, Parcel, Receipt, called, exchange_in, exchange_out};
+use xds_node::{Host, NoGate, Parcel, Receipt, called, exchange_in, exchange_out};
 use xds_notes::ending::DRAIN_SECONDS;
-use xds_notes::{End, Fault};
+use xds_notes::{End, Fault, Lookout};
 use xds_resource::{Refusal, Stamp};
+use xds_rest::Served;
 use xds_stats::{Maker, ReplicaSizes, look_in, millis_now};
-use xds_streams::{NoGate, serve_streams};
+use xds_streams::serve_streams;
+use xds_upkeep::moves::{HearsMoves, Moves};
+use xds_upkeep::storing::{Follows, Storage, changed_since, marks_now};
 
 /// Ends of the channels by which a replica tells another what changed: for what it tells, and for what becomes of it.
 pub type Sends = (Outgoing<Parcel>, Incoming<Receipt>);

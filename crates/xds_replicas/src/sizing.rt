@@ -1,5 +1,4 @@
 // Whole responses that become long, as they are told while a server runs.
-use crate::moves::Moves;
 use crossbeam_channel::{Sender, unbounded};
 use std::alloc::Global;
 use std::sync::{Arc, Wait};
@@ -12,6 +11,7 @@ use xds_message::Batch;
 use xds_notes::Ending;
 use xds_resource::{Refusal, ResourceType, TypeName, Write};
 use xds_stats::{Ceiling, LogEvent, ReplicaSizes, millis_now};
+use xds_upkeep::moves::Moves;
 
 // After how many seconds it is looked again whether responses have become long.
 const LOOK_SECONDS: u64 = 1;

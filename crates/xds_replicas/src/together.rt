@@ -8,9 +8,9 @@ use xds_changes::change::Change;
 use xds_changes::made::Made;
 use xds_core::Event;
 use xds_message::Batch;
-use xds_monitor::{Lookout, Served};
-use xds_notes::Fault;
+use xds_notes::{Fault, Lookout};
 use xds_resource::{Refusal, ResourceType, TypeName, Write};
+use xds_rest::Served;
 
 /// Makes changes at a replica, all of them or none, or says what would become of each. They are looked at first: a deletion of what isn't
 /// live by then is refused, and so is a put that makes a response too long, where such are. Where one is refused all the same when it is

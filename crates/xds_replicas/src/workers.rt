@@ -1,9 +1,8 @@
 // A replica whose calls may come from several threads.
 use std::sync::{Arc, Wait};
-use xds_monitor::Served;
 use xds_node::Host;
 use xds_resource::Refusal;
-use xds_rest::Posts;
+use xds_rest::{Posts, Served};
 
 /// A replica whose calls may come from several threads.
 pub trait Shared: Served

@@ -8,10 +8,12 @@ pub mod path;
 pub mod post;
 pub mod posts;
 pub mod reply;
+pub mod served;
 
 pub use answering::answer;
 pub use by_seat::{answer_at, reply_at};
 pub use post::{Asked, ask};
 pub use posts::Posts;
 pub use reply::{HttpReply, reply_of};
+pub use served::Served;
 pub use xds_http::serve_http;

@@ -11,11 +11,10 @@ use Rattle.xds_core.specs.Events as events
 use Rattle.xds_core.specs.Events.{Event, Request, Reply, Opened, Answered, Polled, Owed, Closed, Written, Merged, Entries, Rested, Changed}
 use Rattle.xds_cache.specs.Clients.{unlinked}
 use Rattle.xds_cache.specs.Faults.{Test}
-use Rattle.xds_world.specs.declared.event.ClientKind.{ClientKind}
-use Rattle.xds_world.specs.declared.event.AnswerFate.{AnswerFate}
-use Rattle.xds_world.specs.Happenings.{Happening, Wish, AddReplica, AddClient, Put, Delete, Snapshot, Merge, Connect, Change, Up, Poll, Down, Lose, RestPoll}
+use Rattle.xds_script.specs.declared.event.ClientKind.{ClientKind}
+use Rattle.xds_script.specs.declared.event.AnswerFate.{AnswerFate}
+use Rattle.xds_script.specs.Happenings.{Happening, Wish, AddReplica, AddClient, Put, Delete, Snapshot, Merge, Connect, Change, Up, Poll, Down, Lose, RestPoll, PutsAResource}
 use Rattle.xds_world.specs.Worlds.{Link, Peer, World, at_site, happened_at, placed, pooled, with_peer, new_peer, connected_to, opened, changed, wish_taken, under_way, polled, up_taken, received, taken_down, down_taken, on_link, is_to_connect, poll_event, rested, rest_polled, happens}
-use Rattle.xds_world.specs.Claims.{PutsAResource}
 use Rattle.xds_world.proofs.Replicas.{some_is, never, mapped_some, bound_some, if_some, if_both, on_link_some, rest_poll_is}
 use Rattle.xds_runs.specs.Runs.{brings_a_replica}
 use Rattle.xds_runs.proofs.Within.{Sites, Pool, wide, Within, answers_there, more, placed_behind, none_at_zero}

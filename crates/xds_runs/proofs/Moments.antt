@@ -17,7 +17,7 @@ use Rattle.xds_core.specs.Events.{Event, Reply, Closed, Merged, Entries}
 use Rattle.xds_core.specs.Steps.{Core, step, fresh as fresh_core}
 use Rattle.xds_cache.specs.Clients.{unlinked}
 use Rattle.xds_cache.specs.Faults.{Test}
-use Rattle.xds_world.specs.Happenings.{Happening, AddReplica, Snapshot, Merge, Lose}
+use Rattle.xds_script.specs.Happenings.{Happening, AddReplica, Snapshot, Merge, Lose}
 use Rattle.xds_world.specs.Worlds.{Site, Link, Peer, World, empty_world, recorded, answered_at, at_site, happened_at, placed, pooled, with_peer, is_free, happens, after, world}
 use Rattle.xds_world.specs.Claims.{PutResources}
 use Rattle.xds_world.proofs.Replicas.{never, some_is, mapped_some, bound_some, both_parts, if_some, on_link_some, none_there}

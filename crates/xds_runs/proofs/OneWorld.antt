@@ -12,8 +12,8 @@ use Rattle.xds_cache.specs.Shelves.{Cache, Wants, interest, is_wanted}
 use Rattle.xds_cache.specs.Clients.{shelf, view}
 use Rattle.xds_cache.specs.Faults.{Test}
 use Rattle.xds_cache.specs.Rest.{rest_receive}
-use Rattle.xds_world.specs.declared.event.AnswerFate.TheVariants.{Arrives}
-use Rattle.xds_world.specs.Happenings.{RestPoll}
+use Rattle.xds_script.specs.declared.event.AnswerFate.TheVariants.{Arrives}
+use Rattle.xds_script.specs.Happenings.{RestPoll}
 use Rattle.xds_world.specs.Worlds.{Site, Link, Peer, World, at_site, poll_of, poll_event, happens, world}
 use Rattle.xds_world.specs.Knows.{knows, wants, cluster as cluster_of, link}
 use Rattle.xds_world.specs.Claims.{writes_of, shown_of, content_at, IsExact, Shows, IsPoll, is_rejected, is_rejected_by, rejects, is_quiet, owes_nothing, is_settled_on, is_settled}

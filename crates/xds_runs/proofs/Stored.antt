@@ -24,7 +24,7 @@ use Rattle.xds_core.specs.Events as events
 use Rattle.xds_core.specs.Events.{Event, Reply, Merged}
 use Rattle.xds_core.specs.Steps.{Core, step, fresh as fresh_core}
 use Rattle.xds_cache.specs.Faults.{Test}
-use Rattle.xds_world.specs.Happenings.{AddReplica, Merge}
+use Rattle.xds_script.specs.Happenings.{AddReplica, Merge}
 use Rattle.xds_world.specs.Worlds.{Site, World, recorded, answered_at, at_site, happened_at, placed, is_free, happens, after}
 use Rattle.xds_world.specs.Knows.{knows}
 use Rattle.xds_world.specs.Claims.{writes_of}

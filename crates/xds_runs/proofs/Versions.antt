@@ -14,7 +14,7 @@ use Rattle.xds_catalogue.specs.Holdings.{Holdings}
 use Rattle.xds_catalogue.proofs.Catalogues.{get-catalogue_of}
 use Rattle.xds_core.specs.Stores.{Store}
 use Rattle.xds_cache.specs.Faults.{Test}
-use Rattle.xds_world.specs.Happenings.{Happening}
+use Rattle.xds_script.specs.Happenings.{Happening}
 use Rattle.xds_world.specs.Worlds.{Site, World, empty_world, happens, world}
 use Rattle.xds_world.specs.Knows.{TypedWrite, knows, made_now, made_after}
 use Rattle.xds_world.specs.Claims.{writes_of, all_made}

@@ -25,11 +25,11 @@ use Rattle.xds_catalogue.specs.Joins.{IsAbove}
 use Rattle.xds_core.specs.Stores.{Store}
 use Rattle.xds_cache.specs.Clients.{shelf, view}
 use Rattle.xds_cache.specs.Faults.{Test}
-use Rattle.xds_world.specs.declared.event.ClientKind.TheVariants.{Sotw, Delta}
-use Rattle.xds_world.specs.declared.event.AnswerFate.TheVariants.{Arrives}
-use Rattle.xds_world.specs.Happenings.{Happening, RestPoll}
+use Rattle.xds_script.specs.declared.event.ClientKind.TheVariants.{Sotw, Delta}
+use Rattle.xds_script.specs.declared.event.AnswerFate.TheVariants.{Arrives}
+use Rattle.xds_script.specs.Happenings.{Happening, RestPoll, PutsAResource}
 use Rattle.xds_world.specs.Worlds.{Site, Peer, Link, World, world, happens}
-use Rattle.xds_world.specs.Claims.{PutsAResource, PutResources, Headline, is_settled, rejects, IsExact, Shows}
+use Rattle.xds_world.specs.Claims.{PutResources, Headline, is_settled, rejects, IsExact, Shows}
 use Rattle.xds_runs.specs.Runs.{Moment, Begin, Occur, Runs, are_new, begun, runs}
 
 -- ---- what is put

@@ -28,7 +28,7 @@ use Rattle.xds_catalogue.specs.Holdings.{nothing_held}
 use Rattle.xds_core.specs.Stores.{Store, merging, all_entries}
 use Rattle.xds_cache.specs.Clients.{unlinked}
 use Rattle.xds_cache.specs.Faults.{Test}
-use Rattle.xds_world.specs.Happenings.{Happening, AddReplica, Merge}
+use Rattle.xds_script.specs.Happenings.{Happening, AddReplica, Merge}
 use Rattle.xds_world.specs.Worlds.{Peer, Link, World, empty_world, with_peer, placed, on_link, happens, after}
 
 -- what may happen over runs

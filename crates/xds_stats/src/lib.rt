@@ -21,6 +21,7 @@ pub mod state;
 pub mod status_text;
 pub mod stream_status;
 pub mod trend;
+pub mod version;
 
 pub use doors::Doors;
 pub use html::escaped;
@@ -36,3 +37,4 @@ pub use pages::{ReplicaNumbers, numbers_text};
 pub use responses::{responses_json, warnings_html};
 pub use sizes::{Ceiling, MOST_BYTES, beyond_by, long_text, longest_bytes, refused_bytes};
 pub use state::TypeState;
+pub use version::VERSION;

@@ -1,5 +1,5 @@
-// The server's gates: one holds nobody up, and one keeps new frames from being begun once the server ends. They keep no segment: what is
-// cut of a replica that is recorded is written as it is cut.
+// The gate that keeps new frames from being begun once the server ends. It keeps no segment: what is cut of a replica that is recorded is
+// written as it is cut.
 ghost use Rattle.std.specs.Prelude.{◌≡◌};
 ghost use Rattle.futures.specs.Task.{Covers, Keeps};
 ghost use Rattle.futures.specs.Poll.{OnPending};
@@ -9,24 +9,6 @@ use std::sync::atomic::{AtomicBool, Ordering};
 use std::sync::{Mutex, Wait};
 use xds_node::{Gate, Place};
 use xds_notes::Ending;
-
-/// Lets everyone pass at once, and drops what was cut.
-#[derive(Clone, Copy, Debug, Drop)]
-pub struct NoGate;
-
-impl<S: Drop> Gate<S> for NoGate {
-    fn poll_pass<R: Wait>(
-        &self,
-        _rt: &R,
-        _cx: &mut Context<'_>,
-        _place: Place,
-        _stream: u64,
-    ) -> Poll<()> {
-        Poll::Ready(())
-    }
-
-    fn keep<R: Wait>(&self, _rt: &R, _segment: S) {}
-}
 
 /// The gate of a stream's writer: it lets it begin a frame as long as the server serves, and holds it from then on.
 pub(crate) struct WriterGate<'a> {

@@ -3,7 +3,7 @@
 
 mod arriving;
 pub mod first_frame;
-pub mod gate;
+mod gate;
 mod open_stream;
 mod parting;
 pub mod proxied;
@@ -11,6 +11,5 @@ mod stream_task;
 pub mod streams;
 
 pub use first_frame::FirstFrame;
-pub use gate::NoGate;
 pub use proxied::{Beginning, address_in, beginning_of};
 pub use streams::serve_streams;

@@ -3,7 +3,7 @@ ghost use Rattle.futures.specs.Task.{IsArmed, Keeps};
 ghost use Rattle.futures.specs.Poll.{OnPending};
 
 use crate::arriving::{Arriving, ArrivingLine};
-use crate::gate::{NoGate, WriterGate};
+use crate::gate::WriterGate;
 use crate::parting::LastResponses;
 use futures::Future;
 use futures::task::{Context, Poll};
@@ -16,9 +16,10 @@ use tokio::time::{Handle, Sleep};
 use xds_core::Event;
 use xds_frames::{Counted, Decoder};
 use xds_message::{Draft, Unsent};
-use xds_monitor::{Lookout, Served};
-use xds_node::{ByPolls, called, poll_requests, poll_responses};
+use xds_node::{ByPolls, NoGate, called, poll_requests, poll_responses};
+use xds_notes::Lookout;
 use xds_resource::Refusal;
+use xds_rest::Served;
 use xds_stats::Moment;
 
 /// As many seconds as may pass from the end of what a client sends to the end of its stream.

@@ -3,7 +3,7 @@ ghost use Rattle.futures.specs.Task.{IsArmed, Keeps};
 ghost use Rattle.futures.specs.Poll.{OnPending};
 
 use crate::arriving::{Arriving, ArrivingLine};
-use crate::gate::{NoGate, WriterGate};
+use crate::gate::WriterGate;
 use crate::open_stream::{Around, AskingHalf, OpenStream, Tells, poll_stream};
 use crate::parting::LastResponses;
 use futures::Future;
@@ -16,9 +16,9 @@ use tokio::time::Sleep;
 use xds_core::{Event, Reply};
 use xds_frames::{Counted, Decoder};
 use xds_message::Unsent;
-use xds_monitor::Served;
-use xds_node::called;
+use xds_node::{NoGate, called};
 use xds_resource::Refusal;
+use xds_rest::Served;
 use xds_stats::Moment;
 
 /// After how many milliseconds it is looked again whether clients may be answered.

@@ -20,9 +20,9 @@ use std::time::{Clock, Duration};
 use tokio::net::{TcpListener, TcpStream};
 use tokio::runtime::{Builder, Runtime};
 use tokio::time::Sleep;
-use xds_monitor::{Lookout, Served};
 use xds_node::Host;
-use xds_rest::Posts;
+use xds_notes::Lookout;
+use xds_rest::{Posts, Served};
 use xds_stats::Moment;
 
 /// As many connections as one poll takes before it lets others run.

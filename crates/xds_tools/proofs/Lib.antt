@@ -1,5 +1,3 @@
 mod GivingUp
 mod Showing
-mod Tellings
 mod Watchings
-pub mod LineReading

@@ -17,7 +17,7 @@ use Rattle.xds_machine.specs.declared.port_client.PortRequest.{PortRequest}
 use Rattle.xds_notes.specs.Endings.{TellsLine, refusal_line}
 use Rattle.xds_program.specs.Outcomes.{Prints}
 use Rattle.xds_stats.specs.Logging.{excerpt}
-use Rattle.xds_tools.specs.Messages.{refused_by_line, why_refused}
+use Rattle.xds_telling.specs.Messages.{refused_by_line, why_refused}
 use Rattle.xds_tools.specs.declared.asking.AskedOfPort.{AskedOfPort}
 use Rattle.xds_tools.specs.declared.asking.AskedOfPort.TheVariants.{Text, Resources, Changes}
 use Rattle.xds_tools.specs.declared.asking.Shown.{Shown}

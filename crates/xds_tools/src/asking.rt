@@ -3,10 +3,6 @@ ghost use Rattle.std.specs.Prelude.{◌≡◌, ◌≤◌, codes, IfErr};
 ghost use Rattle.xds_frames.specs.Devices.{seen};
 ghost use Rattle.xds_tools.specs.Asked.{IsRequest, Shows, ShowsBy, TellsWhy, change_seconds, look_seconds, shown_of, text_shown};
 
-use crate::bearing::{NoBearer, bearer_in};
-use crate::serve_telling::{
-    tell, tell_device, tell_file, tell_no_token, tell_refused_by, tell_unsayable,
-};
 use std::alloc::Global;
 use std::fs::File;
 use std::io::{ErrorKind, Read, Write};
@@ -14,6 +10,7 @@ use std::net::SocketAddrV4;
 use std::rt::Files;
 use std::time::Duration;
 use xds_frames::Counted;
+use xds_machine::bearing::{NoBearer, bearer_in};
 use xds_machine::machine::Machine;
 use xds_machine::port_client::{PortRequest, Unanswered, answered, whole_answer};
 use xds_port::{PortAnswer, changes_target, delete_lines, resources_target};
@@ -21,6 +18,9 @@ use xds_program::run::{REFUSED, print};
 use xds_program::{DeleteTask, GetTask, PutTask, StatusTask};
 use xds_resource::Refusal;
 use xds_stats::excerpt;
+use xds_telling::serve_telling::{
+    tell, tell_device, tell_file, tell_no_token, tell_refused_by, tell_unsayable,
+};
 
 // As many seconds as a server has to answer what it holds and how its streams stand.
 const LOOK_SECONDS: u64 = 10;

@@ -2,7 +2,6 @@
 ghost use Rattle.std.specs.Prelude.{◌≡◌, ◌⊎◌};
 ghost use Rattle.xds_frames.specs.Devices.{Stays, seen};
 
-use crate::serve_telling::tell_file;
 use std::alloc::Global;
 use std::fs::{File, OpenOptions};
 use std::io;
@@ -13,6 +12,7 @@ use xds_frames::{Counted, write_whole};
 use xds_machine::files::FileFault;
 use xds_monitor::PRIVATE;
 use xds_program::Drawing;
+use xds_telling::serve_telling::tell_file;
 
 /// Writes a picture into its file, in place of what the file had, and answers the status of the run. Only who runs the program may read
 /// a file that wasn't there. A file that can't be written is told, with its name and why.

@@ -1,12 +1,11 @@
 // The writes of a store, printed.
 ghost use Rattle.std.specs.Prelude.{◌≤◌};
 
-use crate::serve_telling::{tell, tell_file, tell_store};
-use crate::write_lines::line_at;
 use std::alloc::Global;
 use std::fs::File;
 use std::io::Write;
 use std::rt::Files;
+use xds_changes::write_lines::line_at;
 use xds_frames::{Counted, write_whole};
 use xds_machine::files::FileFault;
 use xds_machine::machine::Runtime;
@@ -14,6 +13,7 @@ use xds_message::Batch;
 use xds_program::WritesTask;
 use xds_program::run::DONE;
 use xds_resource::{Refusal, TypeName};
+use xds_telling::serve_telling::{tell, tell_file, tell_store};
 
 /// Prints all writes of a store, a line each, those of a type in ascending order of names, and answers the status. A file that isn't there
 /// isn't made.

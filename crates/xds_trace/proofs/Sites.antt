@@ -5,7 +5,7 @@ use Rattle.std.specs.FinMap as finmap
 use Rattle.xds_cache.specs.Faults.{Test}
 use Rattle.xds_core.specs.Steps.{Core, fresh}
 use Rattle.xds_core.specs.Legal.{Record, IsLegal, replayed}
-use Rattle.xds_world.specs.Happenings.{Happening}
+use Rattle.xds_script.specs.Happenings.{Happening}
 use Rattle.xds_world.specs.Worlds.{Site, world}
 use Rattle.xds_world.specs.Claims.{JournalsAreLegal}
 use Rattle.xds_check.specs.declared.line.Line.{Line}

@@ -19,9 +19,9 @@ use Rattle.xds_cache.specs.Clients.{Client, shelf, shelf_after, identity, node, 
 use Rattle.xds_cache.specs.Sends.{delta_request, sotw_request, sotw_first, delta_first, is_greeted}
 use Rattle.xds_cache.specs.Rest.{rest_changed}
 use Rattle.xds_cache.specs.Receives.{Outcome as ClientOutcome}
-use Rattle.xds_world.specs.declared.event.ClientKind.{ClientKind}
-use Rattle.xds_world.specs.declared.event.ClientKind.TheVariants.{Sotw, Delta, Rest}
-use Rattle.xds_world.specs.Happenings.{Wish, Names, Edits}
+use Rattle.xds_script.specs.declared.event.ClientKind.{ClientKind}
+use Rattle.xds_script.specs.declared.event.ClientKind.TheVariants.{Sotw, Delta, Rest}
+use Rattle.xds_script.specs.Happenings.{Wish, Names, Edits}
 use Rattle.xds_world.specs.Worlds.{Link, Peer, opening_requests, has_streams, with_request, changed_by, wish_of, under_way, received_in}
 use Rattle.xds_world.specs.Knows.{TypedWrite, wished}
 use Rattle.xds_world.proofs.Replicas.{some_is, never}

@@ -25,10 +25,10 @@ use Rattle.xds_cache.specs.Clients as clients
 use Rattle.xds_cache.specs.Clients.{Client, shelf, unlinked}
 use Rattle.xds_cache.specs.Sends.{is_greeted}
 use Rattle.xds_resource.specs.Types.{types}
-use Rattle.xds_world.specs.declared.event.ClientKind.{ClientKind}
-use Rattle.xds_world.specs.declared.event.ClientKind.TheVariants.{Sotw, Delta, Rest}
-use Rattle.xds_world.specs.declared.event.AnswerFate.{AnswerFate}
-use Rattle.xds_world.specs.Happenings.{Happening, Wish, AddReplica, AddClient, Put, Delete, Snapshot, Merge, Connect, Change, Up, Poll, Down, Lose, RestPoll}
+use Rattle.xds_script.specs.declared.event.ClientKind.{ClientKind}
+use Rattle.xds_script.specs.declared.event.ClientKind.TheVariants.{Sotw, Delta, Rest}
+use Rattle.xds_script.specs.declared.event.AnswerFate.{AnswerFate}
+use Rattle.xds_script.specs.Happenings.{Happening, Wish, AddReplica, AddClient, Put, Delete, Snapshot, Merge, Connect, Change, Up, Poll, Down, Lose, RestPoll}
 use Rattle.xds_world.specs.Worlds.{Site, Link, Peer, World, empty_world, at_site, happened_at, placed, pooled, with_peer, new_peer, connected_to, opened, with_request, changed, wish_of, wish_taken, under_way, polled, up_taken, received, taken_down, down_taken, opening_requests, has_streams, on_link, is_free, is_to_connect, asked_by, poll_event, answer_taken, happens}
 use Rattle.xds_world.specs.Knows.{TypedWrite}
 use Rattle.xds_world.proofs.Replicas.{some_is, bound_some, mapped_some, if_some, if_both, both_parts, none_there, on_link_some, never, IsRestPoll, rest_poll_is}

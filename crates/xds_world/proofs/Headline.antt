@@ -13,10 +13,10 @@ use Rattle.xds_core.specs.Streams.{Stream, owes_of}
 use Rattle.xds_cache.specs.Shelves.{interest, is_wanted}
 use Rattle.xds_cache.specs.Clients.{shelf}
 use Rattle.xds_cache.specs.Faults.{Test}
-use Rattle.xds_world.specs.Happenings.{Happening}
+use Rattle.xds_script.specs.Happenings.{Happening, PutsAResource}
 use Rattle.xds_world.specs.Worlds.{Site, Link, Peer, World, empty_world, world}
 use Rattle.xds_world.specs.Knows.{TypedWrite, Knowledge, nothing_known, known_after, knows, made_after, wants, cluster as cluster_of, link}
-use Rattle.xds_world.specs.Claims.{writes_of, shown_of, content_at, PutResources, PutsAResource, SettledIsExact, SettledAgrees, Headline, is_quiet, owes_nothing, is_settled_on, is_settled}
+use Rattle.xds_world.specs.Claims.{writes_of, shown_of, content_at, PutResources, SettledIsExact, SettledAgrees, Headline, is_quiet, owes_nothing, is_settled_on, is_settled}
 use Rattle.xds_world.proofs.Replicas.{both_parts, holds_what_it_knows, same_knowledge, some_is}
 use Rattle.xds_world.proofs.Origins.{one_write_a_stamp}
 use Rattle.xds_world.proofs.Ranges.{sites_known}

@@ -15,7 +15,7 @@ use Rattle.xds_core.specs.Events.{Event, Reply}
 use Rattle.xds_core.specs.Steps.{Core, step, fresh as fresh_core}
 use Rattle.xds_core.specs.Legal.{Record, IsLegal, replayed, answer_of, left_by, after as after_event}
 use Rattle.xds_cache.specs.Faults.{Test}
-use Rattle.xds_world.specs.Happenings.{Happening}
+use Rattle.xds_script.specs.Happenings.{Happening}
 use Rattle.xds_world.specs.Worlds.{Site, World, empty_world, recorded, happens, after}
 use Rattle.xds_world.specs.Journal.{event_at, event_here, events_from}
 use Rattle.xds_world.specs.Claims.{JournalsAreLegal, JournalsTellAll}

@@ -29,8 +29,8 @@ use Rattle.xds_cache.specs.Deliveries.{fault_in, delivered}
 use Rattle.xds_cache.specs.Sends.{sotw_first, delta_first}
 use Rattle.xds_cache.specs.Receives.{Outcome, sotw_answered, delta_answered, if_addressed}
 use Rattle.xds_cache.proofs.Interests.{kept_by_name, holds_what_is_wanted}
-use Rattle.xds_world.specs.declared.event.ClientKind.{ClientKind}
-use Rattle.xds_world.specs.declared.event.ClientKind.TheVariants.{Sotw, Delta, Rest}
+use Rattle.xds_script.specs.declared.event.ClientKind.{ClientKind}
+use Rattle.xds_script.specs.declared.event.ClientKind.TheVariants.{Sotw, Delta, Rest}
 use Rattle.xds_world.specs.Worlds.{Link, received_in, received_by, opening_requests, under_way, has_streams}
 use Rattle.xds_world.specs.Knows.{TypedWrite}
 use Rattle.xds_world.proofs.Replicas.{some_is, never}

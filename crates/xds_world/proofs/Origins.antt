@@ -31,7 +31,7 @@ use Rattle.xds_core.specs.Stores.{putting_at, deleting_at}
 use Rattle.xds_core.specs.Legal.{left_by}
 use Rattle.xds_core.proofs.StepLaws.{done_with, put_is, delete_is, number_stays}
 use Rattle.xds_cache.specs.Faults.{Test}
-use Rattle.xds_world.specs.Happenings.{Happening, AddReplica, AddClient, Put, Delete, Snapshot, Merge, Connect, Change, Up, Poll, Down, Lose, RestPoll}
+use Rattle.xds_script.specs.Happenings.{Happening, AddReplica, AddClient, Put, Delete, Snapshot, Merge, Connect, Change, Up, Poll, Down, Lose, RestPoll}
 use Rattle.xds_world.specs.Worlds.{Site, Link, Peer, World, empty_world, recorded, at_site, happened_at, placed, pooled, with_peer, new_peer, opened, changed, wish_taken, polled, up_taken, received, taken_down, down_taken, is_free, is_to_connect, poll_of, poll_event, happens, after}
 use Rattle.xds_world.specs.Knows.{TypedWrite, Knowledge, nothing_known, learning, learned, known_after, made_now, made_after, made as made_of}
 use Rattle.xds_world.specs.Journal.{oldest, on_stream, event_at}

@@ -3,9 +3,8 @@ use Rattle.std.proofs.Common.{◌≡◌, List, [], ◌∷◌, ◌++◌, map, Boo
 use Rattle.std.proofs.lemmas.List.{map-append}
 use Rattle.std.specs.Option.{option_map_or}
 use Rattle.xds_cache.specs.Faults.{Test}
-use Rattle.xds_world.specs.Happenings.{Happening}
+use Rattle.xds_script.specs.Happenings.{Happening, PutsAResource}
 use Rattle.xds_world.specs.Worlds.{World, happens, after, world, empty_world}
-use Rattle.xds_world.specs.Claims.{PutsAResource}
 use Rattle.xds_world.proofs.Headline.{put_more}
 use Rattle.xds_world.specs.Calls.{Happened}
 use Rattle.xds_world.specs.Played.{IsWorldOf}

@@ -28,11 +28,11 @@ use Rattle.xds_cache.specs.Faults.{Test}
 use Rattle.xds_cache.specs.Deliveries.{Delivery, sotw_delivery, fault_in}
 use Rattle.xds_cache.specs.Clients.{Client, shelf, with_shelf, view}
 use Rattle.xds_cache.specs.Rest.{rest_asking, rest_taking, rest_delivered, rest_answered, answers_poll, rest_receive}
-use Rattle.xds_world.specs.declared.event.AnswerFate.{AnswerFate}
-use Rattle.xds_world.specs.declared.event.AnswerFate.TheVariants.{Arrives, Lost}
-use Rattle.xds_world.specs.declared.event.ClientKind.{ClientKind}
-use Rattle.xds_world.specs.declared.event.ClientKind.TheVariants.{Sotw, Delta, Rest}
-use Rattle.xds_world.specs.Happenings.{Happening, RestPoll}
+use Rattle.xds_script.specs.declared.event.AnswerFate.{AnswerFate}
+use Rattle.xds_script.specs.declared.event.AnswerFate.TheVariants.{Arrives, Lost}
+use Rattle.xds_script.specs.declared.event.ClientKind.{ClientKind}
+use Rattle.xds_script.specs.declared.event.ClientKind.TheVariants.{Sotw, Delta, Rest}
+use Rattle.xds_script.specs.Happenings.{Happening, RestPoll}
 use Rattle.xds_world.specs.Worlds.{Site, Link, Peer, World, empty_world, world, with_peer, recorded, answered_at, at_site, asked_by, poll_of, poll_event, client_in, answer_taken, rested, rest_polled, happens}
 use Rattle.xds_world.specs.Knows.{TypedWrite, Knowledge, nothing_known, known_after, knows, made_after, wants, cluster as cluster_of}
 use Rattle.xds_world.specs.Claims.{writes_of, shown_of, content_at, Shows as ShowsWrites, PutResources, IsPoll, is_rejected, is_rejected_by, rejects, PolledIsExact, PolledIsTaken, LostLeavesTheView, PollsArePossible, PollersHaveNoStream}

@@ -15,11 +15,11 @@ use Rattle.xds_core.proofs.StreamSteps.{put_twice, put_back}
 use Rattle.xds_cache.specs.Shelves.{wants_some}
 use Rattle.xds_cache.specs.Faults.{Test}
 use Rattle.xds_cache.specs.Clients.{Client, shelf}
-use Rattle.xds_world.specs.declared.event.AnswerFate.{AnswerFate}
-use Rattle.xds_world.specs.declared.event.AnswerFate.TheVariants.{Arrives, Lost}
-use Rattle.xds_world.specs.declared.event.ClientKind.{ClientKind}
-use Rattle.xds_world.specs.declared.event.ClientKind.TheVariants.{Sotw, Delta, Rest}
-use Rattle.xds_world.specs.Happenings as happenings
+use Rattle.xds_script.specs.declared.event.AnswerFate.{AnswerFate}
+use Rattle.xds_script.specs.declared.event.AnswerFate.TheVariants.{Arrives, Lost}
+use Rattle.xds_script.specs.declared.event.ClientKind.{ClientKind}
+use Rattle.xds_script.specs.declared.event.ClientKind.TheVariants.{Sotw, Delta, Rest}
+use Rattle.xds_script.specs.Happenings as happenings
 use Rattle.xds_world.specs.Worlds.{Peer, World, with_peer, at_site, poll_of, poll_event, answer_taken, rested, rest_polled, happens}
 use Rattle.xds_world.proofs.EveryEvent.{polls_as}
 use Rattle.xds_world.proofs.RestPolls.{asked_is, poll_says, answer_kind}

@@ -34,11 +34,11 @@ use Rattle.xds_core.specs.Events.{Event, Written}
 use Rattle.xds_core.specs.Steps.{fresh as fresh_core}
 use Rattle.xds_core.proofs.StepLaws.{done_with, put_is, delete_is}
 use Rattle.xds_cache.specs.Faults.{Test}
-use Rattle.xds_world.specs.Happenings.{Happening, AddReplica, AddClient, Put, Delete, Snapshot, Merge, Connect, Change, Up, Poll, Down, Lose, RestPoll}
+use Rattle.xds_script.specs.Happenings.{Happening, AddReplica, AddClient, Put, Delete, Snapshot, Merge, Connect, Change, Up, Poll, Down, Lose, RestPoll, PutsAResource}
 use Rattle.xds_world.specs.Worlds.{Site, World, empty_world, recorded, at_site, is_free, happens}
 use Rattle.xds_world.specs.Knows.{TypedWrite, Knowledge, made_now, made as made_of}
 use Rattle.xds_world.specs.Journal.{event_at}
-use Rattle.xds_world.specs.Claims.{writes_of, PutsAResource}
+use Rattle.xds_world.specs.Claims.{writes_of}
 use Rattle.xds_world.proofs.Replicas.{Kept, some_is, mapped_some, both_parts, answered}
 use Rattle.xds_world.proofs.Origins.{alone, Stamped, SitesCome, sites_come}
 use Rattle.xds_world.proofs.EveryEvent.{AllSitesKnown}

@@ -39,8 +39,8 @@ use Rattle.xds_core.specs.Laws.{is_write}
 use Rattle.xds_core.proofs.StepLaws.{only_writes_change_the_store, done_with, put_is, delete_is}
 use Rattle.xds_world.specs.Worlds.{Site, Link, Peer, World, empty_world, recorded, answered_at, at_site, happened_at, placed, pooled, with_peer, new_peer, connected_to, opened, changed, wish_taken, under_way, polled, up_taken, received, taken_down, down_taken, on_link, is_free, is_to_connect, poll_of, poll_event, answer_taken, rested, rest_polled, happens, after}
 use Rattle.xds_world.specs.Knows.{TypedWrite, Knowledge, nothing_known, learning, learned, known_after, knows, made as made_of}
-use Rattle.xds_world.specs.declared.event.AnswerFate.{AnswerFate}
-use Rattle.xds_world.specs.Happenings.{Happening, AddReplica, AddClient, Put, Delete, Snapshot, Merge, Connect, Change, Up, Poll, Down, Lose, RestPoll}
+use Rattle.xds_script.specs.declared.event.AnswerFate.{AnswerFate}
+use Rattle.xds_script.specs.Happenings.{Happening, AddReplica, AddClient, Put, Delete, Snapshot, Merge, Connect, Change, Up, Poll, Down, Lose, RestPoll}
 use Rattle.xds_world.specs.Claims.{writes_of, HoldsWhatItKnows, SameKnowledgeSameHoldings}
 
 -- ---- writes of a type

@@ -28,11 +28,11 @@ use Rattle.xds_cache.specs.Faults.{Test}
 use Rattle.xds_cache.specs.Deliveries.{sotw_delivery, fault_in}
 use Rattle.xds_cache.specs.Clients.{Client, shelf, with_shelf, unlinked}
 use Rattle.xds_cache.specs.Rest.{rest_asking, forgetting, rest_taking, rest_delivered}
-use Rattle.xds_world.specs.declared.event.AnswerFate.{AnswerFate}
-use Rattle.xds_world.specs.declared.event.AnswerFate.TheVariants.{Arrives}
-use Rattle.xds_world.specs.declared.event.ClientKind.{ClientKind}
-use Rattle.xds_world.specs.declared.event.ClientKind.TheVariants.{Sotw, Delta, Rest}
-use Rattle.xds_world.specs.Happenings.{Happening, Wish, AddReplica, AddClient, Put, Delete, Snapshot, Merge, Connect, Change, Up, Poll, Down, Lose, RestPoll}
+use Rattle.xds_script.specs.declared.event.AnswerFate.{AnswerFate}
+use Rattle.xds_script.specs.declared.event.AnswerFate.TheVariants.{Arrives}
+use Rattle.xds_script.specs.declared.event.ClientKind.{ClientKind}
+use Rattle.xds_script.specs.declared.event.ClientKind.TheVariants.{Sotw, Delta, Rest}
+use Rattle.xds_script.specs.Happenings.{Happening, Wish, AddReplica, AddClient, Put, Delete, Snapshot, Merge, Connect, Change, Up, Poll, Down, Lose, RestPoll}
 use Rattle.xds_world.specs.Worlds.{Site, Link, Peer, World, empty_world, at_site, with_peer, new_peer, opened, changed, wish_taken, wish_of, polled, up_taken, down_taken, has_streams, is_to_connect, asked_by, poll_event, answer_taken, happens}
 use Rattle.xds_world.specs.Knows.{TypedWrite, Knowledge, wished}
 use Rattle.xds_world.specs.Journal.{event_at}

@@ -15,8 +15,8 @@ use Rattle.xds_cache.specs.Deliveries.{Delivery, sotw_delivery, fault_in, statem
 use Rattle.xds_cache.specs.Clients.{Client, shelf, with_shelf}
 use Rattle.xds_cache.specs.Rest.{forgetting, rest_changed, rest_taking, rest_delivered, rest_answered}
 use Rattle.xds_cache.proofs.Interests.{holds_what_is_wanted}
-use Rattle.xds_world.specs.declared.event.AnswerFate.{AnswerFate}
-use Rattle.xds_world.specs.declared.event.AnswerFate.TheVariants.{Arrives, Lost}
+use Rattle.xds_script.specs.declared.event.AnswerFate.{AnswerFate}
+use Rattle.xds_script.specs.declared.event.AnswerFate.TheVariants.{Arrives, Lost}
 use Rattle.xds_world.specs.Worlds.{client_in, answer_taken}
 use Rattle.xds_world.proofs.Replicas.{some_is, never}
 use Rattle.xds_world.proofs.Lanes.{IsWithin}

@@ -7,9 +7,9 @@ use Rattle.std.proofs.Math.Seq.{drop-append_seam}
 use Rattle.std.proofs.Math.Bool.{or-false, or-true}
 use Rattle.xds_resource.specs.declared.types.TypeName.{TypeName}
 use Rattle.xds_cache.specs.Faults.{Test}
-use Rattle.xds_world.specs.Happenings.{Happening, Up, Poll, Down}
+use Rattle.xds_script.specs.Happenings.{Happening, Up, Poll, Down, PutsAResource}
 use Rattle.xds_world.specs.Worlds.{World, happens, empty_world, after, world}
-use Rattle.xds_world.specs.Claims.{PutResources, PutsAResource, is_settled}
+use Rattle.xds_world.specs.Claims.{PutResources, is_settled}
 use Rattle.xds_world.specs.Settling.{next_to_settle, gave_nothing, link_in, is_held_back, taken_now, responses_taken, Then, Done, IsAtEnd, IsAtStop, IsSettling, IsStopped, HasSettled, HasStopped, IsQuietFor}
 use Rattle.xds_world.proofs.SettlingWalks.{Walked, walked_then, walked_more}
 use Rattle.xds_world.proofs.SettlingEnds.{two_responses_suffice, quiet_at_the_end}

@@ -28,9 +28,9 @@ use Rattle.xds_cache.specs.Faults.{Test}
 use Rattle.xds_cache.specs.Deliveries.{fault_in}
 use Rattle.xds_cache.specs.Clients.{Client, shelf, is_sent}
 use Rattle.xds_cache.specs.Sends.{sotw_first, delta_first}
-use Rattle.xds_world.specs.declared.event.ClientKind.{ClientKind}
-use Rattle.xds_world.specs.declared.event.ClientKind.TheVariants.{Sotw, Delta, Rest}
-use Rattle.xds_world.specs.Happenings.{Wish}
+use Rattle.xds_script.specs.declared.event.ClientKind.{ClientKind}
+use Rattle.xds_script.specs.declared.event.ClientKind.TheVariants.{Sotw, Delta, Rest}
+use Rattle.xds_script.specs.Happenings.{Wish}
 use Rattle.xds_world.specs.Worlds.{Link, Peer, opening_requests, has_streams, under_way, received_in, with_request, wish_of}
 use Rattle.xds_world.specs.Knows.{TypedWrite, wished}
 use Rattle.xds_world.specs.Claims.{asks_for}

@@ -5,7 +5,7 @@ use Rattle.std.specs.Option.{option_map_or}
 use Rattle.std.specs.FinMap as finmap
 use Rattle.xds_resource.specs.declared.types.TypeName.{TypeName}
 use Rattle.xds_cache.specs.Faults.{Test}
-use Rattle.xds_world.specs.Happenings.{Happening}
+use Rattle.xds_script.specs.Happenings.{Happening}
 use Rattle.xds_world.specs.Worlds.{World, Link, Peer, happens, after, world}
 use Rattle.xds_world.specs.Claims.{PutResources, is_quiet, owes_nothing, is_settled_on, is_settled}
 use Rattle.xds_world.specs.Settling.{next_on, link_in, gave_nothing, Done, IsAtEnd, TwoResponsesSuffice, QuietAtTheEnd}

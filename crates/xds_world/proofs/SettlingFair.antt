@@ -16,8 +16,8 @@ use Rattle.xds_core.specs.Events.{Event, Reply, Answered, Polled}
 use Rattle.xds_core.specs.Steps.{Core, fresh as fresh_core}
 use Rattle.xds_cache.specs.Faults.{Test}
 use Rattle.xds_cache.specs.Clients.{Client, unlinked}
-use Rattle.xds_world.specs.declared.event.AnswerFate.{AnswerFate}
-use Rattle.xds_world.specs.Happenings.{Happening, Wish, AddReplica, AddClient, Put, Delete, Snapshot, Merge, Connect, Change, Up, Poll, Down, Lose, RestPoll}
+use Rattle.xds_script.specs.declared.event.AnswerFate.{AnswerFate}
+use Rattle.xds_script.specs.Happenings.{Happening, Wish, AddReplica, AddClient, Put, Delete, Snapshot, Merge, Connect, Change, Up, Poll, Down, Lose, RestPoll}
 use Rattle.xds_world.specs.Worlds.{Site, Link, Peer, World, empty_world, at_site, happened_at, placed, pooled, with_peer, new_peer, connected_to, opened, with_request, changed, wish_of, wish_taken, under_way, polled, up_taken, received, taken_down, down_taken, opening_requests, is_free, is_to_connect, poll_event, happens, after}
 use Rattle.xds_world.specs.Knows.{TypedWrite, made_now}
 use Rattle.xds_world.specs.Settling.{link_in}

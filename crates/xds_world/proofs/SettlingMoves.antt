@@ -19,10 +19,10 @@ use Rattle.xds_core.specs.Events as events
 use Rattle.xds_core.specs.Events.{Answered, Polled}
 use Rattle.xds_cache.specs.Faults.{Test}
 use Rattle.xds_cache.specs.Clients.{Client, shelf}
-use Rattle.xds_world.specs.Happenings.{Happening, Up, Poll, Down}
+use Rattle.xds_script.specs.Happenings.{Happening, Up, Poll, Down, PutsAResource}
 use Rattle.xds_world.specs.Worlds.{Link, Peer, World, at_site, with_peer, up_taken, under_way, polled, received, taken_down, down_taken, happens}
 use Rattle.xds_world.specs.Knows.{TypedWrite}
-use Rattle.xds_world.specs.Claims.{asks_for, is_quiet, is_settled, PutsAResource}
+use Rattle.xds_world.specs.Claims.{asks_for, is_quiet, is_settled}
 use Rattle.xds_world.specs.Settling.{brings, polls_unless, next_on, link_in, next_to_settle, gave_nothing, takes_one, taken_now}
 use Rattle.xds_world.proofs.Replicas.{some_is, bound_some, mapped_some}
 use Rattle.xds_world.proofs.ByKind.{received_stays}

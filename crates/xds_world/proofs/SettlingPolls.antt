@@ -5,7 +5,7 @@ use Rattle.std.specs.Option.{option_map_or}
 use Rattle.std.specs.List.{list_any}
 use Rattle.xds_resource.specs.declared.types.TypeName.{TypeName}
 use Rattle.xds_cache.specs.Faults.{Test}
-use Rattle.xds_world.specs.Happenings.{Happening, Poll}
+use Rattle.xds_script.specs.Happenings.{Happening, Poll}
 use Rattle.xds_world.specs.Worlds.{World, empty_world, happens, world}
 use Rattle.xds_world.specs.Knows.{TypedWrite, Knowledge, nothing_known, known_after, made_after}
 use Rattle.xds_world.specs.Claims.{PutResources}

@@ -13,7 +13,7 @@ use Rattle.xds_ledger.specs.Sessions as sessions
 use Rattle.xds_ledger.specs.Sessions.{Session}
 use Rattle.xds_core.specs.Streams.{Stream}
 use Rattle.xds_cache.specs.Faults.{Test}
-use Rattle.xds_world.specs.Happenings.{Happening}
+use Rattle.xds_script.specs.Happenings.{Happening}
 use Rattle.xds_world.specs.Worlds.{Site, Link, World, happens, after, world}
 use Rattle.xds_world.specs.Claims.{PutResources, asks_for, is_quiet, is_settled}
 use Rattle.xds_world.specs.Settling.{link_in, gave_nothing, would_repeat, is_held_back, Done, IsAtEnd, UnsettledHasRefused}

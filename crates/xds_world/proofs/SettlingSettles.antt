@@ -31,10 +31,10 @@ use Rattle.xds_core.specs.Streams.{Stream, Message, session_after, owes_of}
 use Rattle.xds_cache.specs.Shelves.{Wants, Holding, Shelf, interest}
 use Rattle.xds_cache.specs.Faults.{Test}
 use Rattle.xds_cache.specs.Clients.{Client, shelf}
-use Rattle.xds_world.specs.Happenings.{Happening}
+use Rattle.xds_script.specs.Happenings.{Happening, PutsAResource}
 use Rattle.xds_world.specs.Worlds.{Site, Link, Peer, World, empty_world, under_way, happens, after, world}
 use Rattle.xds_world.specs.Knows.{TypedWrite, Knowledge, nothing_known, learned, knows, made_now, wants, cluster as cluster_of}
-use Rattle.xds_world.specs.Claims.{holding_of, shown_of, writes_of, PutResources, PutsAResource, asks_for, is_quiet, owes_nothing, is_settled}
+use Rattle.xds_world.specs.Claims.{holding_of, shown_of, writes_of, PutResources, asks_for, is_quiet, owes_nothing, is_settled}
 use Rattle.xds_world.specs.Settling.{link_in, gave_nothing, Done, IsAtEnd, SettlesWhereAllIsTaken}
 use Rattle.xds_world.proofs.Replicas.{some_is, bound_some, mapped_some, kept_start, never}
 use Rattle.xds_world.proofs.Origins.{stamped_start}

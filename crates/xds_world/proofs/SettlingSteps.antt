@@ -28,7 +28,7 @@ use Rattle.xds_core.specs.Steps.{Core, step, stream_step}
 use Rattle.xds_cache.specs.Faults.{Test}
 use Rattle.xds_cache.specs.Clients.{Client, shelf}
 use Rattle.xds_cache.specs.Deliveries.{fault_in}
-use Rattle.xds_world.specs.declared.event.ClientKind.{ClientKind}
+use Rattle.xds_script.specs.declared.event.ClientKind.{ClientKind}
 use Rattle.xds_world.specs.Worlds.{Site, Link, Peer, World, recorded, at_site, with_peer, under_way, received_in, on_link}
 use Rattle.xds_world.specs.Knows.{TypedWrite}
 use Rattle.xds_world.specs.Claims.{asks_for}

@@ -29,9 +29,9 @@ use Rattle.xds_core.specs.Steps.{Core, step, with_stream, stream_step}
 use Rattle.xds_cache.specs.Faults.{Test}
 use Rattle.xds_cache.specs.Clients.{Client, shelf, addressing, addressed_or, if_asked}
 use Rattle.xds_cache.specs.Receives.{if_addressed, sotw_answered, delta_answered}
-use Rattle.xds_world.specs.declared.event.ClientKind.{ClientKind}
-use Rattle.xds_world.specs.declared.event.ClientKind.TheVariants.{Sotw, Delta, Rest}
-use Rattle.xds_world.specs.Happenings.{Happening, Up, Poll, Down}
+use Rattle.xds_script.specs.declared.event.ClientKind.{ClientKind}
+use Rattle.xds_script.specs.declared.event.ClientKind.TheVariants.{Sotw, Delta, Rest}
+use Rattle.xds_script.specs.Happenings.{Happening, Up, Poll, Down}
 use Rattle.xds_world.specs.Worlds.{Site, Link, Peer, World, recorded, answered_at, at_site, with_peer, under_way, polled, up_taken, has_streams, received_in, received_by, taken_down, down_taken, on_link, happens, world}
 use Rattle.xds_world.specs.Knows.{TypedWrite}
 use Rattle.xds_world.specs.Claims.{PutResources}

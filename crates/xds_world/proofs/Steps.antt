@@ -15,7 +15,7 @@ use Rattle.xds_core.specs.Events as events
 use Rattle.xds_core.specs.Events.{Event, Reply}
 use Rattle.xds_core.specs.Steps.{Core, with_stream}
 use Rattle.xds_cache.specs.Faults.{Test}
-use Rattle.xds_world.specs.Happenings as happenings
+use Rattle.xds_script.specs.Happenings as happenings
 use Rattle.xds_world.specs.Worlds.{Peer, Link, World, at_site, happened_at, happens, with_peer, on_link, connected_to, opened, polled, under_way, up_taken, down_taken, taken_down, received, changed, wish_taken, is_to_connect}
 use Rattle.xds_world.specs.Settling.{link_in}
 use Rattle.xds_world.proofs.Replicas.{answered, some_is, ok_is}

@@ -2,10 +2,10 @@
 use Rattle.std.proofs.Common.{◌≡◌, List, [], ◌∷◌, ◌++◌, Option, Some, None, refl}
 use Rattle.std.specs.Option.{option_map_or}
 use Rattle.xds_cache.specs.Faults.{Test}
-use Rattle.xds_world.specs.Happenings.{Happening}
+use Rattle.xds_script.specs.Happenings.{Happening, PutsAResource}
 use Rattle.xds_world.specs.Worlds.{World, empty_world, happens, after, world}
 use Rattle.xds_world.specs.Knows.{TypedWrite, Knowledge, nothing_known, learned, known_after, made_now, made_after}
-use Rattle.xds_world.specs.Claims.{PutResources, PutsAResource}
+use Rattle.xds_world.specs.Claims.{PutResources}
 use Rattle.xds_world.proofs.Replicas.{Kept, kept_start, kept_step}
 use Rattle.xds_world.proofs.Origins.{Stamped, stamped_start, stamped_step}
 use Rattle.xds_world.proofs.Ranges.{Ranged, ranged_start, ranged_step, sites_known}

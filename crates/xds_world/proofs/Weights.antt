@@ -9,7 +9,7 @@ use Rattle.xds_core.specs.Streams.{Message}
 use Rattle.xds_core.specs.Events as events
 use Rattle.xds_core.specs.Events.{Reply}
 use Rattle.xds_cache.specs.Faults.{Test}
-use Rattle.xds_world.specs.Happenings.{Up, Poll, Down}
+use Rattle.xds_script.specs.Happenings.{Up, Poll, Down}
 use Rattle.xds_world.specs.Worlds.{World, Peer, Link, happens, at_site, with_peer, up_taken, polled, down_taken, taken_down, received, under_way}
 use Rattle.xds_world.specs.Settling.{link_in}
 use Rattle.xds_world.proofs.Replicas.{some_is, bound_some, mapped_some}

@@ -23,10 +23,10 @@ use Rattle.xds_cache.specs.Faults.{Test}
 use Rattle.xds_cache.specs.Clients as clients
 use Rattle.xds_cache.specs.Clients.{Client, client_code, linked, unlinked}
 use Rattle.xds_cache.specs.Sends.{is_greeted}
-use Rattle.xds_world.specs.declared.event.ClientKind.{ClientKind}
-use Rattle.xds_world.specs.declared.event.ClientKind.TheVariants.{Sotw, Delta, Rest}
-use Rattle.xds_world.specs.declared.event.AnswerFate.TheVariants.{Arrives}
-use Rattle.xds_world.specs.Happenings.{Wish}
+use Rattle.xds_script.specs.declared.event.ClientKind.{ClientKind}
+use Rattle.xds_script.specs.declared.event.ClientKind.TheVariants.{Sotw, Delta, Rest}
+use Rattle.xds_script.specs.declared.event.AnswerFate.TheVariants.{Arrives}
+use Rattle.xds_script.specs.Happenings.{Wish}
 use Rattle.xds_world.specs.Worlds.{Peer, wish_of, received_in, answer_taken}
 use Rattle.xds_world.specs.PeerCodes.{kind_code}
 

@@ -13,7 +13,6 @@
 --     Agrees                        a view shows what is covered of what is live, and nothing that isn't wanted
 --     Shows                         what a client shows that learns of what is gone by a whole answer alone
 --     TakesAll                      a client's test takes what the client is to show of these writes
---     PutsAResource                 what a happening puts is a resource of its type, for groups that a write may list
 --     PutResources                  so it is of each of some happenings
 --     HoldsWhatItKnows              the replicas' half: what a replica holds are the best writes of what it knows
 --     SettledIsExact                the clients' half, for delta clients
@@ -41,8 +40,7 @@ use Rattle.std.specs.FinMap as finmap
 use Rattle.xds_resource.specs.declared.types.TypeName.{TypeName}
 use Rattle.xds_resource.specs.Types.{row, is_same_type}
 use Rattle.xds_resource.specs.PerType.{at}
-use Rattle.xds_resource.specs.Groups.{IsGroups}
-use Rattle.xds_resource.specs.Resources.{IsCanonical, value_of}
+use Rattle.xds_resource.specs.Resources.{value_of}
 use Rattle.xds_resource.specs.Best.{best}
 use Rattle.xds_resource.specs.Writes.{StampedWrite, version_of}
 pub use Rattle.xds_resource.specs.TypedWrites.{writes_of}
@@ -60,10 +58,10 @@ use Rattle.xds_cache.specs.Clients as clients
 use Rattle.xds_cache.specs.Faults.{Test}
 use Rattle.xds_cache.specs.Receives.{Outcome}
 use Rattle.xds_cache.specs.Rest.{rest_receive}
-use Rattle.xds_world.specs.declared.event.ClientKind.TheVariants.{Sotw, Delta, Rest}
-use Rattle.xds_world.specs.declared.event.AnswerFate.{AnswerFate}
-use Rattle.xds_world.specs.declared.event.AnswerFate.TheVariants.{Arrives, Lost}
-use Rattle.xds_world.specs.Happenings.{Happening, Put, RestPoll}
+use Rattle.xds_script.specs.declared.event.ClientKind.TheVariants.{Sotw, Delta, Rest}
+use Rattle.xds_script.specs.declared.event.AnswerFate.{AnswerFate}
+use Rattle.xds_script.specs.declared.event.AnswerFate.TheVariants.{Arrives, Lost}
+use Rattle.xds_script.specs.Happenings.{Happening, RestPoll, PutsAResource}
 use Rattle.xds_world.specs.Worlds.{World, Site, Peer, Link, empty_world, world, at_site, poll_of, poll_event, happens}
 use Rattle.xds_world.specs.Knows.{TypedWrite, knows, wants, cluster, link, made_after}
 use Rattle.xds_world.specs.Journal.{events_at}
@@ -131,11 +129,6 @@ abbrev pub TakesAll : Test → TypeName → List StampedWrite → List ℕ → W
 TakesAll test t ws cluster w = (name : List ℕ) (h : Holding) → content_at t ws cluster w name ≡ Some h → test (row t).url name (value_of h.body) ≡ true
 
 -- ---- what is put
-
--- what is put is a resource of its type, for groups that a write may list
-abbrev pub PutsAResource : Happening → Type 0
-PutsAResource (Put r t body groups) = IsCanonical t body × IsGroups groups
-PutsAResource h = ⊤
 
 abbrev pub PutResources : List Happening → Type 0
 PutResources [] = ⊤

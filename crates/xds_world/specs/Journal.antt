@@ -12,7 +12,7 @@ use Rattle.std.specs.FinMap as finmap
 use Rattle.xds_core.specs.Events as events
 use Rattle.xds_core.specs.Events.{Event}
 use Rattle.xds_cache.specs.Faults.{Test}
-use Rattle.xds_world.specs.Happenings.{Happening, AddReplica, AddClient, Put, Delete, Snapshot, Merge, Connect, Change, Up, Poll, Down, Lose, RestPoll}
+use Rattle.xds_script.specs.Happenings.{Happening, AddReplica, AddClient, Put, Delete, Snapshot, Merge, Connect, Change, Up, Poll, Down, Lose, RestPoll}
 use Rattle.xds_world.specs.Worlds.{World, Link, empty_world, placed, poll_of, poll_event, happens}
 
 -- ---- one happening

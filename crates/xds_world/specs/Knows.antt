@@ -30,7 +30,7 @@ pub use Rattle.xds_resource.specs.TypedWrites.{TypedWrite}
 use Rattle.xds_core.specs.Events as events
 use Rattle.xds_cache.specs.Faults.{Test}
 use Rattle.xds_cache.specs.Shelves.{Wants, wants_of, wants_after}
-use Rattle.xds_world.specs.Happenings.{Wish, Names, Edits, Happening, AddClient, Put, Delete, Snapshot, Merge, Connect, Change, Lose}
+use Rattle.xds_script.specs.Happenings.{Wish, Names, Edits, Happening, AddClient, Put, Delete, Snapshot, Merge, Connect, Change, Lose}
 use Rattle.xds_world.specs.Worlds.{World, empty_world, at_site, happens, placed}
 
 -- what is known at each replica, and what was known when each batch was taken

@@ -1,5 +1,3 @@
-pub mod Happenings
-pub mod ModelSeen
 pub mod Worlds
 pub mod Knows
 pub mod Journal
@@ -17,7 +15,3 @@ pub mod Codes
 pub mod Parts
 pub mod Played
 pub mod Settled
-pub mod Lines
-pub mod Words
-pub mod Commands
-pub mod Scripts

@@ -17,7 +17,7 @@ use Rattle.xds_core.specs.Events as events
 use Rattle.xds_core.specs.Events.{Event, Reply}
 use Rattle.xds_core.specs.Steps.{Step, step, fresh as fresh_core}
 use Rattle.xds_cache.specs.Clients as clients
-use Rattle.xds_world.specs.declared.event.ClientKind.TheVariants.{Sotw}
+use Rattle.xds_script.specs.declared.event.ClientKind.TheVariants.{Sotw}
 use Rattle.xds_world.specs.Worlds.{Site, Link, Peer, recorded, World, on_peer, with_peer}
 
 -- ---- replicas

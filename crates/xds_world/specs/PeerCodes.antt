@@ -35,8 +35,8 @@ use Rattle.xds_message.specs.Drafts.{Drafted, DraftedResource, DraftedDelta}
 use Rattle.xds_core.specs.Streams as streams
 use Rattle.xds_core.specs.Streams.{Message}
 use Rattle.xds_cache.specs.Clients.{Client, client_code}
-use Rattle.xds_world.specs.declared.event.ClientKind.{ClientKind}
-use Rattle.xds_world.specs.declared.event.ClientKind.TheVariants as kinds
+use Rattle.xds_script.specs.declared.event.ClientKind.{ClientKind}
+use Rattle.xds_script.specs.declared.event.ClientKind.TheVariants as kinds
 use Rattle.xds_world.specs.Worlds.{Link, Peer}
 
 abbrev pub text_code : Coded (List ℕ)

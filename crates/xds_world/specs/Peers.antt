@@ -15,7 +15,7 @@ use Rattle.xds_message.specs.declared.draft.Draft.{Draft}
 use Rattle.xds_message.specs.Drafts.{Drafted}
 use Rattle.xds_cache.specs.Faults.{Test}
 use Rattle.xds_cache.specs.Clients.{unlinked}
-use Rattle.xds_world.specs.Happenings.{Wish}
+use Rattle.xds_script.specs.Happenings.{Wish}
 use Rattle.xds_world.specs.Worlds.{Link, Peer, wish_taken, changed, received, taken_down, under_way, is_to_connect, connected_to}
 use Rattle.xds_world.specs.AnyClients.{answering}
 use Rattle.xds_world.specs.Links.{link_up}

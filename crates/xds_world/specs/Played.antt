@@ -5,7 +5,7 @@
 use Rattle.std.specs.Prelude.{◌≡◌, ℕ, List, [], ◌∷◌, ◌++◌, Bool, true, false, Option, Some, None}
 use Rattle.xds_resource.specs.declared.types.TypeName.{TypeName}
 use Rattle.xds_cache.specs.Faults.{Test}
-use Rattle.xds_world.specs.Happenings.{Happening}
+use Rattle.xds_script.specs.Happenings.{Happening}
 use Rattle.xds_world.specs.Worlds.{World, world, happens}
 use Rattle.xds_world.specs.Claims.{PutResources}
 use Rattle.xds_world.specs.Settling.{HasSettled, HasStopped}

@@ -9,7 +9,7 @@ use Rattle.xds_world.specs.Claims.{Headline, writes_of, TakesAll}
 use Rattle.xds_world.specs.Knows.{knows, cluster, wants, link}
 use Rattle.xds_world.specs.Worlds.{world}
 use Rattle.xds_world.specs.Settling.{link_in, is_held_back, HasStopped}
-use Rattle.xds_world.specs.Happenings.{Happening}
+use Rattle.xds_script.specs.Happenings.{Happening}
 use Rattle.xds_world.specs.declared.settling.Unsettled.{Unsettled}
 use Rattle.xds_world.specs.declared.settling.Unsettled.TheVariants as unsettled
 

@@ -44,7 +44,7 @@ use Rattle.xds_ledger.specs.Ledgers.{is_refused}
 use Rattle.xds_core.specs.Stores.{Store}
 use Rattle.xds_core.specs.Streams.{Stream, Message, to_send}
 use Rattle.xds_cache.specs.Faults.{Test}
-use Rattle.xds_world.specs.Happenings.{Happening, Up, Poll, Down}
+use Rattle.xds_script.specs.Happenings.{Happening, Up, Poll, Down}
 use Rattle.xds_world.specs.Worlds.{World, Site, Link, world, after, happens}
 use Rattle.xds_world.specs.Knows.{knows, wants, cluster, link}
 use Rattle.xds_world.specs.Claims.{writes_of, TakesAll, is_quiet, is_settled}

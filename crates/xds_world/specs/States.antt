@@ -1,7 +1,7 @@
 -- How the states of a client are seen. This project's own.
 --     client_in   a client of any kind, with its link
 use Rattle.std.specs.Prelude.{true, false}
-use Rattle.xds_world.specs.declared.event.ClientKind.TheVariants as kinds
+use Rattle.xds_script.specs.declared.event.ClientKind.TheVariants as kinds
 use Rattle.xds_world.specs.declared.client.ClientState.{ClientState}
 use Rattle.xds_world.specs.declared.client.ClientState.TheVariants as states
 use Rattle.xds_world.specs.AnyClients.{AnyClient}

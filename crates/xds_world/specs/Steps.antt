@@ -3,8 +3,8 @@
 --     event_for   what is done in a step of settling a client of a type
 use Rattle.std.specs.Prelude.{ℕ, Bool, if◌then◌else◌, Some}
 use Rattle.xds_resource.specs.declared.types.TypeName.{TypeName}
-use Rattle.xds_world.specs.Happenings as happenings
-use Rattle.xds_world.specs.Happenings.{Happening}
+use Rattle.xds_script.specs.Happenings as happenings
+use Rattle.xds_script.specs.Happenings.{Happening}
 use Rattle.xds_world.specs.declared.link.Step.{Step}
 use Rattle.xds_world.specs.declared.link.Step.TheVariants.{Up, Poll, Down}
 

@@ -69,11 +69,11 @@ use Rattle.xds_cache.specs.Clients.{Client, linked, unlinked}
 use Rattle.xds_cache.specs.Sends.{sotw_first, delta_first, first_requests, is_greeted}
 use Rattle.xds_cache.specs.Receives.{Outcome, sotw_change, delta_change, sotw_receive, delta_receive}
 use Rattle.xds_cache.specs.Rest.{rest_request, rest_changed, rest_receive}
-use Rattle.xds_world.specs.declared.event.ClientKind.{ClientKind}
-use Rattle.xds_world.specs.declared.event.ClientKind.TheVariants.{Sotw, Delta, Rest}
-use Rattle.xds_world.specs.declared.event.AnswerFate.{AnswerFate}
-use Rattle.xds_world.specs.declared.event.AnswerFate.TheVariants.{Arrives, Lost}
-use Rattle.xds_world.specs.Happenings.{Wish, Names, Edits, Happening, AddReplica, AddClient, Put, Delete, Snapshot, Merge, Connect, Change, Up, Poll, Down, Lose, RestPoll}
+use Rattle.xds_script.specs.declared.event.ClientKind.{ClientKind}
+use Rattle.xds_script.specs.declared.event.ClientKind.TheVariants.{Sotw, Delta, Rest}
+use Rattle.xds_script.specs.declared.event.AnswerFate.{AnswerFate}
+use Rattle.xds_script.specs.declared.event.AnswerFate.TheVariants.{Arrives, Lost}
+use Rattle.xds_script.specs.Happenings.{Wish, Names, Edits, Happening, AddReplica, AddClient, Put, Delete, Snapshot, Merge, Connect, Change, Up, Poll, Down, Lose, RestPoll}
 
 -- a replica, and what happened at it, with the answers
 pub record Site : Type 0 where

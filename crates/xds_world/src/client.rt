@@ -9,14 +9,13 @@ ghost use Rattle.xds_core.specs.Streams as streams;
 ghost use Rattle.xds_core.specs.Seen.{message_of};
 ghost use Rattle.xds_cache.specs.Clients.{view as view_of, linked};
 ghost use Rattle.xds_cache.specs.Sends.{is_greeted};
-ghost use Rattle.xds_world.specs.ModelSeen.{wish_of};
+ghost use Rattle.xds_script.specs.ModelSeen.{wish_of};
 ghost use Rattle.xds_world.specs.Worlds.{opening_requests, has_streams, asked_by};
-ghost use Rattle.xds_world.specs.declared.event.ClientKind.TheVariants as kinds;
+ghost use Rattle.xds_script.specs.declared.event.ClientKind.TheVariants as kinds;
 ghost use Rattle.xds_world.specs.AnyClients.{fresh_any, wishing, changing, receiving, receiving_any, answering, answering_any, linked_any, unlinked_any};
 ghost use Rattle.xds_world.specs.Calls.{Gave, Happened};
 ghost use Rattle.xds_world.specs.States.{client_in};
 
-use crate::event::{ClientKind, Wish};
 use std::alloc::Global;
 use std::collections::VecDeque;
 use std::marker::Model;
@@ -26,6 +25,7 @@ use xds_message::{
     DeltaDiscoveryRequest, DeltaDraft, DiscoveryRequest, DiscoveryResponse, Draft, SotwDraft,
 };
 use xds_resource::{Refusal, TypeName};
+use xds_script::{ClientKind, Wish};
 
 #[derive(Drop)]
 enum ClientState<A: Accept> {

@@ -1,7 +1,7 @@
 // Laws of worlds, over every list of what may happen. Each is a function that does nothing, whose clause is the law.
 ghost use Rattle.std.specs.Prelude.{List};
 ghost use Rattle.xds_cache.specs.Faults.{Test};
-ghost use Rattle.xds_world.specs.Happenings.{Happening};
+ghost use Rattle.xds_script.specs.Happenings.{Happening};
 ghost use Rattle.xds_world.specs.Claims.{HoldsWhatItKnows, PutResources, SameKnowledgeSameHoldings, SettledIsExact, SettledAgrees, LinksAreFollowed, OneWriteAStamp, JournalsAreLegal, JournalsTellAll, PolledIsExact, PolledIsTaken, LostLeavesTheView, PollsArePossible, PollersHaveNoStream};
 ghost use Rattle.xds_world.specs.Settling.{TwoResponsesSuffice, QuietAtTheEnd, UnsettledHasRefused, StopsWhereSpent, SettlesWhereAllIsTaken};
 

@@ -7,14 +7,13 @@ ghost use Rattle.xds_core.specs.Seen.{message_of};
 ghost use Rattle.xds_message.specs.DraftTexts.{kind_of};
 ghost use Rattle.xds_world.specs.Claims.{asks_for, is_quiet};
 ghost use Rattle.xds_world.specs.Worlds.{under_way};
-ghost use Rattle.xds_world.specs.ModelSeen.{happening_of};
+ghost use Rattle.xds_script.specs.ModelSeen.{happening_of};
 ghost use Rattle.xds_world.specs.Settling.{brings, takes_one, next_on};
 ghost use Rattle.xds_world.specs.Calls.{Happened};
 ghost use Rattle.xds_world.specs.Journal.{oldest};
 ghost use Rattle.xds_world.specs.Links.{behind, link_up};
 ghost use Rattle.xds_world.specs.Steps.{event_for, count};
 
-use crate::event::WorldEvent;
 use crate::parts::is_there;
 use std::alloc::Global;
 use std::collections::VecDeque;
@@ -22,6 +21,7 @@ use std::marker::Model;
 use xds_core::Request;
 use xds_message::Draft;
 use xds_resource::{Refusal, TypeName};
+use xds_script::WorldEvent;
 
 /// What is done next to settle a client of a type.
 #[derive(Clone, Copy)]

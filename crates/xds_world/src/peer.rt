@@ -4,14 +4,13 @@ ghost use Rattle.std.specs.Option.{option_map_or};
 ghost use Rattle.xds_resource.specs.declared.refusal.Refusal.TheVariants.{OutOfMemory};
 ghost use Rattle.xds_core.specs.Seen.{message_of};
 ghost use Rattle.xds_cache.specs.Clients.{view as view_of, fresh};
-ghost use Rattle.xds_world.specs.ModelSeen.{wish_of};
+ghost use Rattle.xds_script.specs.ModelSeen.{wish_of};
 ghost use Rattle.xds_world.specs.Worlds.{with_request, is_to_connect, poll_of};
 ghost use Rattle.xds_world.specs.Calls.{Happened};
 ghost use Rattle.xds_world.specs.Peers.{peer_changed, peer_up, peer_polled, peer_down, peer_lost, peer_connected, peer_answered};
 ghost use Rattle.xds_world.specs.Statuses.{status_of};
 
 use crate::client::AnyClient;
-use crate::event::{ClientKind, Wish};
 use crate::link::Link;
 use std::alloc::Global;
 use std::marker::Model;
@@ -19,6 +18,7 @@ use xds_cache::{Accept, Cache};
 use xds_core::Request;
 use xds_message::{DiscoveryRequest, Draft, SotwDraft};
 use xds_resource::{Refusal, TypeName};
+use xds_script::{ClientKind, Wish};
 
 /// Whether a client has a stream, or polls.
 #[derive(Clone, Copy, Debug, PartialEq, Eq)]

@@ -1,18 +1,18 @@
 // What a world is at a time, with all that happened in it until then.
 ghost use Rattle.std.specs.Prelude.{◌≡◌, ◌++◌, [], ◌∷◌, map, IfOk, IfErr, OnOk};
 ghost use Rattle.xds_resource.specs.declared.refusal.Refusal.TheVariants.{OutOfMemory};
-ghost use Rattle.xds_world.specs.ModelSeen.{happening_of};
+ghost use Rattle.xds_script.specs.ModelSeen.{happening_of};
 ghost use Rattle.xds_world.specs.Worlds.{empty_world};
 ghost use Rattle.xds_world.specs.Settling.{link_in, gave_nothing, taken_now};
 ghost use Rattle.xds_world.specs.Steps.{event_for};
 ghost use Rattle.xds_world.specs.Played.{IsWorldOf, HasStepped, HasEnded};
 
-use crate::event::WorldEvent;
 use crate::link::Step;
 use crate::state::State;
 use std::alloc::Global;
 use xds_cache::Accept;
 use xds_resource::{Refusal, TypeName};
+use xds_script::WorldEvent;
 
 /// What a world is at a time, with all that happened in it until then.
 pub(crate) struct Run<A: Accept> {

@@ -1,7 +1,7 @@
 // Settling a client of a type.
 ghost use Rattle.std.specs.Prelude.{◌≡◌, ◌≤◌, true, is_some, map, IfOk, IfErr, OnOk};
 ghost use Rattle.xds_resource.specs.declared.refusal.Refusal.TheVariants.{OutOfMemory};
-ghost use Rattle.xds_world.specs.ModelSeen.{happening_of};
+ghost use Rattle.xds_script.specs.ModelSeen.{happening_of};
 ghost use Rattle.xds_world.specs.Claims.{Headline};
 ghost use Rattle.xds_world.specs.Settling.{HasSettled, IsQuietFor, link_in};
 ghost use Rattle.xds_world.specs.Worlds.{world as world_of};

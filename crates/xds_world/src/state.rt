@@ -8,8 +8,8 @@ ghost use Rattle.xds_core.specs.Events as events;
 ghost use Rattle.xds_core.specs.Seen.{message_of, event_of, reply_of};
 ghost use Rattle.xds_core.specs.Streams.{cluster_in};
 ghost use Rattle.xds_world.specs.Claims.{is_settled_on, is_settled};
-ghost use Rattle.xds_world.specs.Happenings as happenings;
-ghost use Rattle.xds_world.specs.ModelSeen.{happening_of, wish_of};
+ghost use Rattle.xds_script.specs.Happenings as happenings;
+ghost use Rattle.xds_script.specs.ModelSeen.{happening_of, wish_of};
 ghost use Rattle.xds_world.specs.Settling.{link_in, next_to_settle, taken_now, gave_nothing};
 ghost use Rattle.xds_world.specs.Worlds.{empty_world, at_site, happened_at, happens, placed, is_to_connect, poll_of, poll_event};
 ghost use Rattle.xds_world.specs.Calls.{Gave, Happened};
@@ -18,7 +18,6 @@ ghost use Rattle.xds_world.specs.Peers.{peer_up, peer_polled, peer_lost, peer_co
 ghost use Rattle.xds_world.specs.Steps.{event_for};
 ghost use Rattle.xds_world.specs.Parts.{blank, leads, draft_in, stream_in, batch_in, rested_in, peer_event};
 
-use crate::event::{AnswerFate, ClientKind, Wish, WorldEvent};
 use crate::link::{Link, Step};
 use crate::parts::is_there;
 use crate::peer::Peer;
@@ -30,6 +29,7 @@ use xds_catalogue::ByNumber;
 use xds_core::{Event, Reply, Request};
 use xds_message::{Batch, DiscoveryRequest, Draft, Node, SotwDraft};
 use xds_resource::{AnyResource, Groups, Refusal, TypeName};
+use xds_script::{AnswerFate, ClientKind, Wish, WorldEvent};
 
 /// Replicas, clients, and the batches that were taken.
 pub(crate) struct State<A: Accept> {

@@ -6,12 +6,11 @@ ghost use Rattle.xds_resource.specs.declared.refusal.Refusal.TheVariants.{OutOfM
 ghost use Rattle.xds_resource.specs.PerType.{at, each, with_at};
 ghost use Rattle.xds_cache.specs.Clients.{view as view_of};
 ghost use Rattle.xds_world.specs.Claims.{Headline, is_settled_on};
-ghost use Rattle.xds_world.specs.ModelSeen.{happening_of};
+ghost use Rattle.xds_script.specs.ModelSeen.{happening_of};
 ghost use Rattle.xds_world.specs.Worlds.{Site as SiteValue, world as world_of};
 ghost use Rattle.xds_world.specs.Statuses.{status_of};
 ghost use Rattle.xds_core.specs.Seen.{record_of};
 
-use crate::event::{ClientKind, WorldEvent};
 use crate::peer::PeerStatus;
 use crate::run::Run;
 use std::alloc::Global;
@@ -20,6 +19,7 @@ use xds_cache::{Accept, Cache};
 use xds_core::Record;
 use xds_message::Batch;
 use xds_resource::{Refusal, TypeName};
+use xds_script::{ClientKind, WorldEvent};
 
 /// A world of replicas and clients, with the list of what happened in it. `A` is the clients' test of what they are sent.
 #[derive(Drop)]
@@ -29,8 +29,8 @@ pub struct World<A: Accept> {
 
 impl<A: Accept> Model for World<A> {
     ghost use Rattle.std.specs.Prelude.{◌≡◌, List, map};
-    ghost use Rattle.xds_world.specs.Happenings.{Happening};
-    ghost use Rattle.xds_world.specs.ModelSeen.{happening_of};
+    ghost use Rattle.xds_script.specs.Happenings.{Happening};
+    ghost use Rattle.xds_script.specs.ModelSeen.{happening_of};
     ghost use Rattle.xds_world.specs.Played.{IsWorldOf};
 
     ghost Value = { List Happening };

@@ -1,7 +1,7 @@
 use Rattle.std.proofs.Common.{arith, refl, sym}
 use Rattle.std.proofs.lemmas.Str.Pattern.{split_parts}
-use Rattle.xds_world.specs.Words.{words}
-use Rattle.xds_world.proofs.Wording.{split_first-space, split_first-all}
+use Rattle.xds_script.specs.Words.{words}
+use Rattle.xds_script.proofs.Wording.{split_first-space, split_first-all}
 use Rattle.xds_causes.proofs.cause.first_word.Goals as goal
 
 pub returns-in-Some : goal.returns-in-Some

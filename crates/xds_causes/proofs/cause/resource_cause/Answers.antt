@@ -1,6 +1,6 @@
 use Rattle.std.proofs.Common.{Bor, IfOk, List, Option, sym, subst, ℕ}
 use Rattle.std.specs.Option.{option_map}
-use Rattle.xds_world.specs.Words.{words_in}
+use Rattle.xds_script.specs.Words.{words_in}
 use Rattle.xds_causes.specs.declared.cause.Cause.TheVariants.{WrongWords}
 use Rattle.xds_causes.specs.Causes.{IsResourceCause}
 use Rattle.xds_causes.proofs.Causing.{resource_fine, resource_refused}

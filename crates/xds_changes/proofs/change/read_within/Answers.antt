@@ -2,8 +2,8 @@ use Rattle.std.proofs.Common.{◌∙◌, Option, Result, Ok, ap, subst, sym}
 use Rattle.std.specs.Option.{option_map}
 use Rattle.xds_resource.specs.declared.refusal.Refusal.{Refusal}
 use Rattle.xds_resource.specs.Refusals.{Gives}
-use Rattle.xds_world.specs.Commands.{said_of}
-use Rattle.xds_world.specs.Scripts.{line_says}
+use Rattle.xds_script.specs.Commands.{said_of}
+use Rattle.xds_script.specs.Scripts.{line_says}
 use Rattle.xds_changes.specs.Changes.{Written, change_of}
 use Rattle.xds_changes.proofs.Changing.{line_refused, line_skipped, line_said}
 use Rattle.xds_changes.proofs.change.read_within.Goals as goal

@@ -1,6 +1,6 @@
 -- The reader of decimals misses no number, so a word that it refuses spells none.
 use Rattle.std.proofs.Common.{◌≡◌, Some, sym, ◌∙◌, arith}
-use Rattle.xds_world.proofs.ShortNumbers.{number_in-decimal, number_in-none}
+use Rattle.xds_script.proofs.ShortNumbers.{number_in-decimal, number_in-none}
 use Rattle.xds_changes.proofs.marking.number_within.Goals as goal
 
 pub returns-in_err-number : goal.returns-in_err-number

@@ -1,8 +1,8 @@
 -- The mark that is found ends the first piece; where there is none, all is one piece.
 use Rattle.std.proofs.Common.{ap, ◌∙◌}
 use Rattle.std.proofs.lemmas.Str.Pattern.{split_parts}
-use Rattle.xds_world.specs.Lines.{pieces}
-use Rattle.xds_world.proofs.Splits.{pieces-joined, pieces-no_mark}
+use Rattle.xds_script.specs.Lines.{pieces}
+use Rattle.xds_script.proofs.Splits.{pieces-joined, pieces-no_mark}
 use Rattle.xds_changes.proofs.marking.split_at.Goals as goal
 
 pub returns-in-Some : goal.returns-in-Some

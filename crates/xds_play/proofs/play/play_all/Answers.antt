@@ -1,8 +1,8 @@
 use Rattle.std.proofs.Common.{◌+◌, List, map, drop, string_bytes, subst}
 use Rattle.std.proofs.lemmas.List.{drop_all}
 use Rattle.xds_resource.proofs.BoolsAndLists.{drop_here}
-use Rattle.xds_world.specs.declared.command.Command.{Command}
-use Rattle.xds_world.specs.Commands.{said_of}
+use Rattle.xds_script.specs.declared.command.Command.{Command}
+use Rattle.xds_script.specs.Commands.{said_of}
 use Rattle.xds_play.specs.Played.{Played, takes}
 use Rattle.xds_play.proofs.Playing.{ArePlayedTo, played_more, played_to}
 use Rattle.xds_play.proofs.play.play_all.Goals as goal

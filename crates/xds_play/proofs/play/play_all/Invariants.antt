@@ -1,5 +1,5 @@
 use Rattle.std.proofs.Common.{map, drop, string_bytes}
-use Rattle.xds_world.specs.Commands.{said_of}
+use Rattle.xds_script.specs.Commands.{said_of}
 use Rattle.xds_play.specs.Played.{takes}
 use Rattle.xds_play.proofs.Playing.{ArePlayedTo}
 use Rattle.xds_play.proofs.play.play_all.Given as goal

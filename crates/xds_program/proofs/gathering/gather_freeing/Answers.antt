@@ -1,6 +1,6 @@
 use Rattle.std.proofs.Common.{◌≡◌, List, ℕ, length, take, ap, ◌∙◌}
 use Rattle.std.proofs.lemmas.Result.{IfOk-weaker, IfErr-weaker}
-use Rattle.xds_world.specs.Lines.{without_last_feed}
+use Rattle.xds_script.specs.Lines.{without_last_feed}
 use Rattle.xds_program.proofs.Reading.{begun, without_feed}
 use Rattle.xds_program.proofs.gathering.gather_freeing.Goals as goal
 

@@ -2,7 +2,7 @@ use Rattle.std.proofs.Common.{inl, ap, subst, ◌∙◌}
 use Rattle.xds_frames.specs.Devices.{seen}
 use Rattle.xds_notes.specs.Endings.{TellsLine}
 use Rattle.xds_stats.specs.Logging.{excerpt}
-use Rattle.xds_tools.specs.Messages.{refused_by_line, why_refused}
+use Rattle.xds_telling.specs.Messages.{refused_by_line, why_refused}
 use Rattle.xds_tools.proofs.asking.tell_why.Goals as goal
 
 -- what is told is the excerpt of the body

@@ -1,6 +1,6 @@
 use Rattle.std.proofs.Common.{map, ap, subst, ◌∙◌}
 use Rattle.std.specs.Prelude.{is_some}
-use Rattle.xds_world.specs.ModelSeen.{happening_of}
+use Rattle.xds_script.specs.ModelSeen.{happening_of}
 use Rattle.xds_world.specs.Settling.{HasStopped, link_in}
 use Rattle.xds_world.specs.Worlds.{world}
 use Rattle.xds_world.proofs.Headline.{headline}

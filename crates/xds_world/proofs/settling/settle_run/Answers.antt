@@ -1,5 +1,5 @@
 use Rattle.std.proofs.Common.{map, sym, subst, ◌∙◌, arith}
-use Rattle.xds_world.specs.ModelSeen.{happening_of}
+use Rattle.xds_script.specs.ModelSeen.{happening_of}
 use Rattle.xds_world.specs.Steps.{event_for}
 use Rattle.xds_world.specs.Played.{HasStepped}
 use Rattle.xds_world.proofs.Settles.{settles_more, settles_few, settles_done, settles_held, settles_stopped, still_played, falls}

@@ -1,5 +1,5 @@
 use Rattle.std.proofs.Common.{map}
-use Rattle.xds_world.specs.ModelSeen.{happening_of}
+use Rattle.xds_script.specs.ModelSeen.{happening_of}
 use Rattle.xds_world.proofs.Settles.{Settles, left_to_do}
 use Rattle.xds_world.proofs.settling.settle_run.Given as goal
 

@@ -1,5 +1,5 @@
 use Rattle.std.proofs.Common.{map}
-use Rattle.xds_world.specs.ModelSeen.{happening_of}
+use Rattle.xds_script.specs.ModelSeen.{happening_of}
 use Rattle.xds_world.proofs.Headline.{headline}
 use Rattle.xds_world.proofs.world.more.Goals as goal
 

@@ -1,5 +1,5 @@
 use Rattle.std.proofs.Common.{◌≡◌, ◌++◌, map, drop}
-use Rattle.xds_world.specs.ModelSeen.{happening_of}
+use Rattle.xds_script.specs.ModelSeen.{happening_of}
 use Rattle.xds_world.specs.Played.{IsWorldOf}
 use Rattle.xds_world.proofs.world.more.Given as goal
 

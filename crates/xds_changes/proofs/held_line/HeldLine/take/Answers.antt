@@ -1,5 +1,5 @@
 use Rattle.std.proofs.Common.{[], ◌++◌, length, map, refl}
-use Rattle.xds_world.specs.Lines.{feed, pieces}
+use Rattle.xds_script.specs.Lines.{feed, pieces}
 use Rattle.xds_changes.specs.Changes.{change_of}
 use Rattle.xds_changes.proofs.Takings.{taken_more, taken_refused}
 use Rattle.xds_changes.proofs.held_line.HeldLine.take.Goals as goal

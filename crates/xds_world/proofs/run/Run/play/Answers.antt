@@ -1,5 +1,5 @@
 use Rattle.std.proofs.Common.{map}
-use Rattle.xds_world.specs.ModelSeen.{happening_of}
+use Rattle.xds_script.specs.ModelSeen.{happening_of}
 use Rattle.xds_world.proofs.Plays.{played_one, map_pushed}
 use Rattle.xds_world.proofs.run.Run.play.Goals as goal
 

@@ -2,7 +2,7 @@ use Rattle.std.proofs.Common.{sym, ap, subst}
 use Rattle.std.specs.Prelude.{IsSome}
 use Rattle.std.specs.FinMap as finmap
 use Rattle.xds_core.proofs.StreamSteps.{there}
-use Rattle.xds_world.specs.ModelSeen.{wish_of}
+use Rattle.xds_script.specs.ModelSeen.{wish_of}
 use Rattle.xds_world.specs.Peers.{peer_changed}
 use Rattle.xds_world.proofs.Edits.{lent, put_over, with_peers, put_peers}
 use Rattle.xds_world.proofs.Steps.{change_within}

@@ -1,8 +1,8 @@
 use Rattle.std.proofs.Common.{true, sym, subst, ◌∙◌}
 use Rattle.std.specs.Prelude.{IfOk}
 use Rattle.xds_core.specs.Events as events
-use Rattle.xds_world.specs.declared.event.AnswerFate.{AnswerFate}
-use Rattle.xds_world.specs.Happenings as happenings
+use Rattle.xds_script.specs.declared.event.AnswerFate.{AnswerFate}
+use Rattle.xds_script.specs.Happenings as happenings
 use Rattle.xds_world.specs.Worlds.{at_site, poll_event, happens}
 use Rattle.xds_world.specs.Calls.{Gave, Happened}
 use Rattle.xds_world.proofs.Polls.{rest_within, rest_lost}

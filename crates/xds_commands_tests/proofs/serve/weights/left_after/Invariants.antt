@@ -1,5 +1,0 @@
-use Rattle.xds_commands_tests.proofs.serve.weights.left_after.Given as goal
-
--- the node has the name of the tokens that were just made, and the number that it is made with
-abbrev pub ghosts-records_after : goal.ghosts-records_after
-ghosts-records_after g a = record { id = a.opened; replica = 1 }

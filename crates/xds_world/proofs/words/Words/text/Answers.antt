@@ -1,5 +1,0 @@
-use Rattle.xds_world.proofs.Wording.{text_of-words_in}
-use Rattle.xds_world.proofs.words.Words.text.Goals as goal
-
-pub returns : goal.returns
-returns c = text_of-words_in _ c.args.self c.self.view_is
