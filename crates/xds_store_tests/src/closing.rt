@@ -1,12 +1,12 @@
 // Stores that are closed. Where all that was committed stands in the file, no log stays beside it; else the log has it.
-use crate::given::{FIRST, HELD, batch, empty, held, wanted};
-use crate::paths::{FOLDER, LOG, PATH, begin, is_alone, run};
-use sqlite_disk::{Files, Memory};
+use crate::given::{FIRST, HELD, batch, closed_files, empty, fill, holds, opened, wanted};
+use crate::paths::{FOLDER, LOG, PATH, begin, is_alone, is_there, run};
+use sqlite_disk::{Disk, Files, Memory};
 use std::alloc::Global;
 use std::fs;
 use std::os::unix::fs::symlink;
 use std::test::Fail;
-use xds_store::{StoreRefusal, close_at, open_at, open_files, reopen_at, reopen_files};
+use xds_store::{FileStore, Store, StoreRefusal, close_at, open_at, reopen_files};
 
 const LINK: &str = "xds_store_paths/link.db";
 
@@ -36,6 +36,15 @@ fn a_closed_store_has_no_log(rt: HostRuntime) -> Result<(), Fail> {
 // close_at says, and whether the log was still there.
 fn closes_over_damage(rt: &HostRuntime) -> Result<(bool, bool), Fail> {
     let mut store = open_at(rt, PATH)?;
+    let log = damages(rt, &mut store)?;
+    let closed = close_at(rt, PATH, store);
+    let stays = fs::exists(rt, LOG)?;
+    fs::write(rt, LOG, log.as_slice())?;
+    Ok((closed.is_err(), stays))
+}
+
+// An open store has a batch, and the frames of its log hold other bytes then. Answers the bytes that they held.
+fn damages<D: Disk>(rt: &HostRuntime, store: &mut Store<FileStore<D>>) -> Result<Vec<u8>, Fail> {
     store.put_batch(&batch(rt.alloc(), FIRST)?)?;
     let log = fs::read(rt, LOG)?;
     let mut damaged = fs::read(rt, LOG)?;
@@ -45,22 +54,14 @@ fn closes_over_damage(rt: &HostRuntime) -> Result<(bool, bool), Fail> {
         }
     }
     fs::write(rt, LOG, damaged.as_slice())?;
-    let closed = close_at(rt, PATH, store);
-    let stays = fs::exists(rt, LOG)?;
-    fs::write(rt, LOG, log.as_slice())?;
-    Ok((closed.is_err(), stays))
+    Ok(log)
 }
 
 #[test]
 fn a_log_that_is_not_copied_stays(rt: HostRuntime) -> Result<(), Fail> {
     begin(&rt, b"")?;
     assert_eq!(rt; closes_over_damage(&rt)?, (true, true));
-    let mut store = reopen_at(&rt, PATH)?;
-    wanted(
-        held(rt.alloc(), &mut store)?.as_str() == HELD[1],
-        "what is held",
-    )?;
-    drop(store);
+    is_there(&rt)?;
     fs::remove_dir_all(&rt, FOLDER)?;
     Ok(())
 }
@@ -86,15 +87,9 @@ fn a_link_leads_to_the_store(rt: HostRuntime) -> Result<(), Fail> {
 
 // A store that gave out a number and has a batch, and was closed.
 fn closed(alloc: Global) -> Result<Files<Memory>, Fail> {
-    let mut store = match open_files(alloc, empty(alloc), 7) {
-        Ok(store) => store,
-        Err((refusal, _)) => return Err(Fail::from(refusal)),
-    };
-    store.take_numbers(1)?;
-    store.put_batch(&batch(alloc, FIRST)?)?;
-    let (files, closed) = store.close();
-    closed?;
-    Ok(files)
+    let mut store = opened(alloc, empty(alloc), 7)?;
+    fill(alloc, &mut store, 1, FIRST)?;
+    closed_files(store)
 }
 
 // rule: new-numbers
@@ -109,10 +104,12 @@ fn a_file_that_was_closed_stands_without_its_log(rt: HostRuntime) -> Result<(), 
         Ok(store) => store,
         Err((refusal, _)) => return Err(Fail::from(refusal)),
     };
-    wanted(
-        held(rt.alloc(), &mut store)?.as_str() == HELD[1],
-        "what is held",
-    )?;
+    goes_on(&rt, &mut store)
+}
+
+// An open store holds the first batch, and its next number is 2.
+fn goes_on(rt: &HostRuntime, store: &mut Store<FileStore<Memory>>) -> Result<(), Fail> {
+    holds(rt.alloc(), store, HELD[1])?;
     wanted(store.take_numbers(1)? == 2, "the next number")
 }
 

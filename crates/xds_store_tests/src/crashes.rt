@@ -1,6 +1,6 @@
 // A disk that fails at a call, each in turn, and then crashes. What was answered is there at the next open, what
 // wasn't is there whole or not at all, and no number comes twice.
-use crate::given::{batch, held, wanted};
+use crate::given::{batch, held, opened, wanted};
 use sqlite_disk::{Crash, Files, Fuse, Memory};
 use std::alloc::Global;
 use std::test::Fail;
@@ -100,11 +100,13 @@ fn is_found(alloc: Global, mut disks: Disks, answered: &Answered) -> Result<bool
     if answered.whole {
         disks.log = Fuse::new(Memory::new(alloc), u64::MAX);
     }
-    let mut store = match open_files(alloc, disks, 9) {
-        Ok(store) => store,
-        Err((refusal, _)) => return Err(Fail::from(refusal)),
-    };
-    let text = held(alloc, &mut store)?;
+    let mut store = opened(alloc, disks, 9)?;
+    is_found_in(alloc, &mut store, answered)
+}
+
+// The same, of an open store.
+fn is_found_in(alloc: Global, store: &mut Opened, answered: &Answered) -> Result<bool, Fail> {
+    let text = held(alloc, store)?;
     let next = store.take_numbers(1)?;
     Ok(answered.next <= next && next <= 4 && is_held(text.as_str(), answered.puts))
 }

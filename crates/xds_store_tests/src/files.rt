@@ -1,44 +1,54 @@
 // A store in a file: it is made, closed, opened again, and in use.
-use crate::given::{FIRST, HELD, SECOND, batch, held, wanted};
+use crate::given::{FIRST, HELD, SECOND, fill, holds, wanted};
+use sqlite_disk::Disk;
 use std::fs;
 use std::test::Fail;
-use xds_store::{StoreRefusal, open_at};
+use xds_store::{FileStore, Store, StoreRefusal, open_at};
 
 fn first_run(rt: &HostRuntime, path: &str) -> Result<u16, Fail> {
     let mut store = open_at(rt, path)?;
-    let first = store.take_numbers(3)?;
-    store.put_batch(&batch(rt.alloc(), FIRST)?)?;
-    wanted(
-        held(rt.alloc(), &mut store)?.as_str() == HELD[1],
-        "what is held",
-    )?;
+    filled(rt, &mut store)
+}
+
+// A first run over an open store.
+fn filled<D: Disk>(rt: &HostRuntime, store: &mut Store<FileStore<D>>) -> Result<u16, Fail> {
+    let first = fill(rt.alloc(), store, 3, FIRST)?;
+    holds(rt.alloc(), store, HELD[1])?;
     Ok(first)
 }
 
 fn second_run(rt: &HostRuntime, path: &str) -> Result<u16, Fail> {
     let mut store = open_at(rt, path)?;
-    wanted(
-        open_at(rt, path).err() == Some(StoreRefusal::InUse),
-        "in use",
-    )?;
-    let first = store.take_numbers(2)?;
-    wanted(
-        held(rt.alloc(), &mut store)?.as_str() == HELD[1],
-        "what is held",
-    )?;
-    store.put_batch(&batch(rt.alloc(), SECOND)?)?;
-    wanted(
-        held(rt.alloc(), &mut store)?.as_str() == HELD[2],
-        "what is held",
-    )?;
+    let first = filled_more(rt, path, &mut store)?;
     let (files, closed) = store.close();
     drop(files);
     closed?;
     Ok(first)
 }
 
+// A second run over an open store.
+fn filled_more<D: Disk>(
+    rt: &HostRuntime,
+    path: &str,
+    store: &mut Store<FileStore<D>>,
+) -> Result<u16, Fail> {
+    wanted(
+        open_at(rt, path).err() == Some(StoreRefusal::InUse),
+        "in use",
+    )?;
+    holds(rt.alloc(), store, HELD[1])?;
+    let first = fill(rt.alloc(), store, 2, SECOND)?;
+    holds(rt.alloc(), store, HELD[2])?;
+    Ok(first)
+}
+
 fn third_run(rt: &HostRuntime, path: &str) -> Result<(), Fail> {
     let mut store = open_at(rt, path)?;
+    used_up(rt, &mut store)
+}
+
+// A third run over an open store.
+fn used_up<D: Disk>(rt: &HostRuntime, store: &mut Store<FileStore<D>>) -> Result<(), Fail> {
     wanted(
         store.take_numbers_from(5, 1) == Err(StoreRefusal::NumberTaken),
         "numbers",
@@ -52,11 +62,7 @@ fn third_run(rt: &HostRuntime, path: &str) -> Result<(), Fail> {
         store.take_numbers(1) == Err(StoreRefusal::NumbersUsed),
         "numbers",
     )?;
-    wanted(
-        held(rt.alloc(), &mut store)?.as_str() == HELD[2],
-        "what is held",
-    )?;
-    Ok(())
+    holds(rt.alloc(), store, HELD[2])
 }
 
 // rule: new-numbers, rule: greatest-write, rule: tombstones

@@ -11,7 +11,7 @@ use sqlite_wal::PageSize;
 use std::alloc::Global;
 use std::test::Fail;
 use xds_message::Batch;
-use xds_store::{FileStore, Store};
+use xds_store::{FileStore, Store, open_files};
 
 pub(crate) const FIRST: &str = "{\"writes\":[
 {\"typeUrl\":\"type.googleapis.com/envoy.config.cluster.v3.Cluster\",\"name\":\"b\",\"counter\":3,\"writer\":2,\"groups\":[\"h\\\"\\u0000\",\"g\"],
@@ -40,6 +40,47 @@ pub(crate) fn held<D: Disk>(
     store: &mut Store<FileStore<D>>,
 ) -> Result<String, Fail> {
     Ok(store.read_all()?.write(alloc)?)
+}
+
+// A store over files that hold one, or nothing.
+pub(crate) fn opened<D: Disk + Drop>(
+    alloc: Global,
+    files: Files<D>,
+    seed: u64,
+) -> Result<Store<FileStore<D>>, Fail> {
+    match open_files(alloc, files, seed) {
+        Ok(store) => Ok(store),
+        Err((refusal, _)) => Err(Fail::from(refusal)),
+    }
+}
+
+// Gives out numbers of a store, of which it answers the first, and puts a batch. It borrows the store, as do the others here: one that it
+// owned would end at each of its calls that fails, and each end is proved.
+pub(crate) fn fill<D: Disk>(
+    alloc: Global,
+    store: &mut Store<FileStore<D>>,
+    count: u16,
+    text: &str,
+) -> Result<u16, Fail> {
+    let first = store.take_numbers(count)?;
+    store.put_batch(&batch(alloc, text)?)?;
+    Ok(first)
+}
+
+// Fails the test where a store holds something else.
+pub(crate) fn holds<D: Disk>(
+    alloc: Global,
+    store: &mut Store<FileStore<D>>,
+    text: &str,
+) -> Result<(), Fail> {
+    wanted(held(alloc, store)?.as_str() == text, "what is held")
+}
+
+// The files of a store, once it is closed.
+pub(crate) fn closed_files<D: Disk + Drop>(store: Store<FileStore<D>>) -> Result<Files<D>, Fail> {
+    let (files, closed) = store.close();
+    closed?;
+    Ok(files)
 }
 
 // A file and its log, both empty.

@@ -1,9 +1,10 @@
 // Files at paths that are no store, are gone, or are empty. What is refused is left byte for byte as it was, and no log
 // comes to lie beside it.
-use crate::given::{FIRST, HELD, batch, database, held, wanted};
+use crate::given::{FIRST, HELD, database, fill, holds, wanted};
+use sqlite_disk::Disk;
 use std::fs;
 use std::test::Fail;
-use xds_store::{StoreRefusal, open_at, reopen_at};
+use xds_store::{FileStore, Store, StoreRefusal, open_at, reopen_at};
 
 pub(crate) const FOLDER: &str = "xds_store_paths";
 
@@ -127,12 +128,26 @@ fn a_file_with_a_journal_is_left_alone(rt: HostRuntime) -> Result<(), Fail> {
 // A run over the store at the path, which has given out the numbers below `next`.
 pub(crate) fn run(rt: &HostRuntime, next: u16) -> Result<(), Fail> {
     let mut store = open_at(rt, PATH)?;
-    wanted(store.take_numbers(1)? == next, "the next number")?;
-    store.put_batch(&batch(rt.alloc(), FIRST)?)?;
+    goes_on(rt, &mut store, next)
+}
+
+// The same, over an open store.
+fn goes_on<D: Disk>(
+    rt: &HostRuntime,
+    store: &mut Store<FileStore<D>>,
+    next: u16,
+) -> Result<(), Fail> {
     wanted(
-        held(rt.alloc(), &mut store)?.as_str() == HELD[1],
-        "what is held",
-    )
+        fill(rt.alloc(), store, 1, FIRST)? == next,
+        "the next number",
+    )?;
+    holds(rt.alloc(), store, HELD[1])
+}
+
+// The store that is there at the path holds the first batch.
+pub(crate) fn is_there(rt: &HostRuntime) -> Result<(), Fail> {
+    let mut store = reopen_at(rt, PATH)?;
+    holds(rt.alloc(), &mut store, HELD[1])
 }
 
 // The store is refused as gone by both calls, and nothing is made.
@@ -155,12 +170,7 @@ fn a_store_that_vanished_is_not_made_anew(rt: HostRuntime) -> Result<(), Fail> {
     )?;
     wanted(is_alone(&rt, b"")?, "an empty file is left alone")?;
     run(&rt, 1)?;
-    let mut store = reopen_at(&rt, PATH)?;
-    wanted(
-        held(rt.alloc(), &mut store)?.as_str() == HELD[1],
-        "what is held",
-    )?;
-    drop(store);
+    is_there(&rt)?;
     fs::remove_file(&rt, PATH)?;
     gone(&rt, true)?;
     // The log has what was committed, so its numbers may be in use.

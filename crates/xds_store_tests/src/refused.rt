@@ -1,9 +1,9 @@
 // Files that are no store. Each is refused by what it is, and left as it was.
-use crate::given::{FIRST, HELD, batch, database, empty, held, wanted};
+use crate::given::{FIRST, HELD, closed_files, database, empty, fill, holds, opened, wanted};
 use sqlite_disk::{Disk, Files, Memory};
 use std::alloc::Global;
 use std::test::Fail;
-use xds_store::{StoreRefusal, open_files};
+use xds_store::{FileStore, Store, StoreRefusal, open_files};
 
 // What a refusal says of two files, and whether it left them as they were.
 fn refusal(alloc: Global, files: Files<Memory>) -> Result<Option<(StoreRefusal, bool)>, Fail> {
@@ -69,15 +69,9 @@ fn a_later_format_is_told(rt: HostRuntime) -> Result<(), Fail> {
 
 // A store that gave out three numbers and has a batch, and whose log was copied into its file.
 fn store(alloc: Global) -> Result<Files<Memory>, Fail> {
-    let mut store = match open_files(alloc, empty(alloc), 7) {
-        Ok(store) => store,
-        Err((refusal, _)) => return Err(Fail::from(refusal)),
-    };
-    store.take_numbers(3)?;
-    store.put_batch(&batch(alloc, FIRST)?)?;
-    let (files, closed) = store.close();
-    closed?;
-    Ok(files)
+    let mut store = opened(alloc, empty(alloc), 7)?;
+    fill(alloc, &mut store, 3, FIRST)?;
+    closed_files(store)
 }
 
 // What comes of a store whose file has another byte at a place: it is refused as damaged, or no store, or what it
@@ -89,10 +83,15 @@ fn is_told(alloc: Global, file: &[u8], at: usize) -> Result<bool, Fail> {
     overwrite(&mut files, at, &[byte ^ 0x15])?;
     match open_files(alloc, files, 7) {
         Err((refusal, _)) => Ok(refusal != StoreRefusal::OutOfMemory),
-        Ok(mut store) => match store.read_all() {
-            Ok(batch) => Ok(batch.write(alloc)?.as_str() == HELD[1]),
-            Err(refusal) => Ok(refusal == StoreRefusal::Damaged),
-        },
+        Ok(mut store) => is_sound(alloc, &mut store),
+    }
+}
+
+// Whether a store holds what it held, or is refused as damaged.
+fn is_sound(alloc: Global, store: &mut Store<FileStore<Memory>>) -> Result<bool, Fail> {
+    match store.read_all() {
+        Ok(batch) => Ok(batch.write(alloc)?.as_str() == HELD[1]),
+        Err(refusal) => Ok(refusal == StoreRefusal::Damaged),
     }
 }
 
@@ -145,23 +144,19 @@ fn told_of(
     let mut files = store(alloc)?;
     let at = place_of(files.db.bytes(), bytes).ok_or("the bytes are in the file")?;
     overwrite(&mut files, at, others)?;
-    let mut store = match open_files(alloc, files, 8) {
-        Ok(store) => store,
-        Err((refusal, _)) => return Err(Fail::from(refusal)),
-    };
+    let mut store = opened(alloc, files, 8)?;
     let (read, taken) = (store.read_all().err(), store.take_numbers(1).err());
-    let (mut files, closed) = store.close();
-    closed?;
+    let mut files = closed_files(store)?;
     overwrite(&mut files, at, bytes)?;
-    let mut store = match open_files(alloc, files, 9) {
-        Ok(store) => store,
-        Err((refusal, _)) => return Err(Fail::from(refusal)),
-    };
-    wanted(held(alloc, &mut store)?.as_str() == HELD[1], "what is held")?;
-    let next = store.take_numbers(1)?;
-    let free = if taken.is_some() { 4 } else { 5 };
-    wanted(next == free, "the next number")?;
+    let mut store = opened(alloc, files, 9)?;
+    goes_on(alloc, &mut store, if taken.is_some() { 4 } else { 5 })?;
     Ok((read, taken))
+}
+
+// A store holds what it held, and its next number is this one.
+fn goes_on(alloc: Global, store: &mut Store<FileStore<Memory>>, free: u16) -> Result<(), Fail> {
+    holds(alloc, store, HELD[1])?;
+    wanted(store.take_numbers(1)? == free, "the next number")
 }
 
 #[test]
