@@ -11,7 +11,7 @@ use std::time::{SystemTime, UNIX_EPOCH};
 use std::{fs, io};
 use xds_core::Event;
 use xds_monitor::{Piece, Recording, Reel, Seals};
-use xds_node::{Host, JournalLine, NodeName, Opened, Segment, SharedNode};
+use xds_node::{Host, JournalLine, NodeName, Opened, Seat, Segment, SharedNode};
 use xds_resource::{AnyResource, Groups, Refusal};
 
 // A new folder.
@@ -140,28 +140,71 @@ fn ends_of<N: NodeName, R: Wait>(
 {
     let node = SharedNode::<N>::new(alloc, opened, 1)?;
     let mut seat = node.seat(rt)?;
+    ends_by(rt, alloc, &node, &mut seat)
+}
+
+// The same, by a seat of the node.
+fn ends_by<N: NodeName, R: Wait>(
+    rt: &R,
+    alloc: Global,
+    node: &SharedNode<N>,
+    seat: &mut Seat<N>,
+) -> Result<String, Refusal> {
     let mut segments = Vec::new(alloc);
     for _ in 0..3 {
-        let resource = AnyResource::parse(
-            alloc,
-            "{\"@type\":\"type.googleapis.com/envoy.config.cluster.v3.Cluster\",\"name\":\"a\"}",
-        )?;
-        if let Err(unrecorded) = node.call(rt, &mut seat, Event::Put(resource, Groups::none())) {
-            return Err(unrecorded.refusal);
-        }
-        segments.push(node.cut(rt)?)?;
+        segments.push(cut_of_a_put(rt, alloc, node, seat)?)?;
     }
-    let segments = segments.as_slice();
+    told_ends(alloc, segments.as_slice())
+}
+
+// What is cut of a put.
+fn cut_of_a_put<N: NodeName, R: Wait>(
+    rt: &R,
+    alloc: Global,
+    node: &SharedNode<N>,
+    seat: &mut Seat<N>,
+) -> Result<Segment<N>, Refusal> {
+    let resource = AnyResource::parse(
+        alloc,
+        "{\"@type\":\"type.googleapis.com/envoy.config.cluster.v3.Cluster\",\"name\":\"a\"}",
+    )?;
+    match node.call(rt, seat, Event::Put(resource, Groups::none())) {
+        Ok(_) => node.cut(rt),
+        Err(unrecorded) => Err(unrecorded.refusal),
+    }
+}
+
+// How many records the first has, and how recordings end of all, of all but one, and on tapes that are too short.
+fn told_ends<N: NodeName>(alloc: Global, segments: &[Segment<N>]) -> Result<String, Refusal> {
     let line = match segments.first() {
         Some(first) => first.count(),
         None => 0,
     };
-    let whole = end_of(alloc, segments, None, 10_000)?;
-    let gap = end_of(alloc, segments, Some(1), 10_000)?;
-    let late = end_of(alloc, segments, Some(0), 10_000)?;
-    let short = end_of(alloc, segments, None, 250)?;
-    let unsealed = end_of(alloc, segments, None, 3 * 188)?;
-    Ok(format!(in alloc; "{line}: {whole}, {gap}, {late}, {short}, {unsealed}")?)
+    let mut text = format!(in alloc; "{line}:")?;
+    for (left_out, room) in [
+        (None, 10_000),
+        (Some(1), 10_000),
+        (Some(0), 10_000),
+        (None, 250),
+        (None, 3 * 188),
+    ] {
+        add_end(alloc, &mut text, segments, left_out, room)?;
+    }
+    Ok(text)
+}
+
+// Adds how a recording ends.
+fn add_end<N: NodeName>(
+    alloc: Global,
+    text: &mut String,
+    segments: &[Segment<N>],
+    left_out: Option<usize>,
+    room: usize,
+) -> Result<(), Refusal> {
+    let end = end_of(alloc, segments, left_out, room)?;
+    text.push_str(" ")?;
+    text.push_str(end.as_str())?;
+    Ok(())
 }
 
 fn ended<R: Wait + AllocGlobal>(rt: &R) -> Result<String, Refusal> {
@@ -175,7 +218,7 @@ fn ended<R: Wait + AllocGlobal>(rt: &R) -> Result<String, Refusal> {
 fn a_recording_ends_by_the_first_refusal(rt: HostRuntime) -> Result<(), Fail> {
     let found = ended(&rt)?;
     let found = found.as_str();
-    if found == "1: whole 570, Gap 188, Gap 0, Device 250, Device 564" {
+    if found == "1: whole 570 Gap 188 Gap 0 Device 250 Device 564" {
         return Ok(());
     }
     Err(Fail::new(format_args!("{found}")))

@@ -9,7 +9,7 @@ use std::time::Clock;
 use xds_core::{Event, Request};
 use xds_message::DiscoveryRequest;
 use xds_monitor::{Instrumented, JournalWeight, Observer, SegmentSink, Turns};
-use xds_node::{Host, JournalLine, NodeName, Opened, SharedNode};
+use xds_node::{Host, JournalLine, NodeName, Opened, Seat, SharedNode};
 use xds_notes::{Ending, Limits, Lookout, Telling};
 use xds_resource::{AnyResource, Groups, Refusal};
 use xds_rest::Served;
@@ -126,8 +126,19 @@ fn records_after<N: NodeName, R: Wait + Clock + Copy + Drop>(
     let weight = JournalWeight::new(alloc, story.is_recorded);
     let node = Instrumented::new(node, weight, observer, SegmentSink::new(None));
     let mut seat = node.seat(rt)?;
-    put_often(rt, alloc, &node, &mut seat, story.puts)?;
-    tell_often(rt, alloc, &node, &mut seat, story.streams)?;
+    records_by(rt, alloc, &node, &mut seat, story)
+}
+
+// The same, by a seat of the node.
+fn records_by<N: NodeName, R: Wait + Clock>(
+    rt: &R,
+    alloc: Global,
+    node: &Instrumented<SharedNode<N>, R>,
+    seat: &mut Seat<N>,
+    story: Story,
+) -> Result<usize, Refusal> {
+    put_often(rt, alloc, node, seat, story.puts)?;
+    tell_often(rt, alloc, node, seat, story.streams)?;
     let segment = node.node().cut(rt)?;
     Ok(segment.records().len())
 }
