@@ -21,7 +21,7 @@ import tempfile
 TOP = os.path.dirname(os.path.dirname(os.path.dirname(os.path.abspath(__file__))))
 URL = "type.googleapis.com/envoy.config.cluster.v3.Cluster"
 CLUSTERS, SIZE = 1000, 600
-NEEDS = "xds_node xds_core xds_message xds_frames xds_resource"
+NEEDS = "xds_flows xds_core xds_message xds_frames xds_resource"
 
 PROGRAM = r"""// Serves the requests of the standard input at a replica of many clusters, or only reads them.
 #![tactic(auto)]
@@ -35,7 +35,7 @@ use xds_core::{Core, Event};
 use xds_frames::{Counted, Decoder};
 use xds_message::DiscoveryRequest;
 use xds_resource::{AnyResource, Groups, Refusal};
-use xds_node::run_stream;
+use xds_flows::run_stream;
 
 // A writer that only counts.
 #[derive(Drop)]

@@ -18,7 +18,7 @@ import sys
 sys.path.insert(0, os.path.abspath(f"{__file__}/../../load"))
 from stream import made_in
 
-NEEDS = "xds_program xds_node xds_core xds_message xds_frames xds_resource hex"
+NEEDS = "xds_program xds_flows xds_core xds_message xds_frames xds_resource hex"
 NAME = "doors_bench"
 
 PROGRAM = r'''// Takes inputs, one a line, through the door that its word names, and prints what each is answered.
@@ -33,7 +33,7 @@ use xds_core::{Core, Event, Reply};
 use xds_frames::Counted;
 use xds_program::run::{answer, check, play};
 use xds_resource::{AnyResource, Groups, Refusal, TypeName};
-use xds_node::run_stream;
+use xds_flows::run_stream;
 use xds_message::Batch;
 
 const WRITES: &str = r#"THE_WRITES"#;

@@ -6,7 +6,7 @@ use Rattle.xds_resource.specs.declared.refusal.Refusal.{Refusal}
 use Rattle.xds_resource.specs.declared.refusal.Refusal.TheVariants.{OutOfMemory}
 use Rattle.xds_notes.specs.declared.ending.End.{End}
 use Rattle.xds_notes.specs.declared.ending.End.TheVariants.{Streams, Stopped, Line, Refused}
-use Rattle.xds_core.specs.Stores.{Batch, Store, all_entries}
+use Rattle.xds_events.specs.Stores.{Batch, Store, all_entries}
 use Rattle.xds_changes.specs.declared.loading.Loader.{Loader}
 use Rattle.xds_changes.specs.Changes.{Written}
 use Rattle.xds_changes.specs.Handing.{AllHanded, StopsInput, TakesAll}

@@ -12,9 +12,9 @@ use Rattle.std.specs.Prelude.{ℕ, List, length, nat_lt, if◌then◌else◌, Op
 use Rattle.std.specs.Option.{ok_or}
 use Rattle.xds_resource.specs.declared.refusal.Refusal.{Refusal}
 use Rattle.xds_resource.specs.declared.refusal.Refusal.TheVariants.{BadScript, TooLong}
-use Rattle.xds_core.specs.Events as events
-use Rattle.xds_core.specs.Events.{Event}
-use Rattle.xds_core.specs.Seen.{event_of}
+use Rattle.xds_events.specs.Events as events
+use Rattle.xds_events.specs.Events.{Event}
+use Rattle.xds_events.specs.Seen.{event_of}
 use Rattle.xds_script.specs.Happenings.{Happening}
 use Rattle.xds_script.specs.Happenings as happenings
 use Rattle.xds_script.specs.declared.command.Command.{Command}

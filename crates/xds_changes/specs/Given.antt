@@ -15,7 +15,7 @@ use Rattle.xds_resource.specs.declared.types.TypeName.{TypeName}
 use Rattle.xds_resource.specs.Writes.{StampedWrite}
 use Rattle.xds_resource.specs.PerType.{at, each}
 use Rattle.xds_catalogue.specs.Holdings.{nothing_held}
-use Rattle.xds_core.specs.Stores.{Batch, Store, all_entries, merging}
+use Rattle.xds_events.specs.Stores.{Batch, Store, all_entries, merging}
 use Rattle.xds_changes.specs.Loads.{IsLoaded}
 
 -- rule: new-numbers

@@ -20,8 +20,8 @@ use Rattle.std.specs.Prelude.{◌≡◌, ◌⊎◌, ℕ, ◌+◌, ◌-◌, min, 
 use Rattle.std.specs.Io.KnownBytes.{Consumes, IsAtEnd}
 use Rattle.xds_resource.specs.declared.refusal.Refusal.{Refusal}
 use Rattle.xds_resource.specs.declared.refusal.Refusal.TheVariants.{BadScript, Device, OutOfMemory}
-use Rattle.xds_core.specs.Events.{Event, Put, Delete}
-use Rattle.xds_core.specs.Stores.{Batch, Store, all_entries, putting_at, deleting_at, if_done}
+use Rattle.xds_events.specs.Events.{Event, Put, Delete}
+use Rattle.xds_events.specs.Stores.{Batch, Store, all_entries, putting_at, deleting_at, if_done}
 use Rattle.xds_script.specs.Lines.{feed, pieces}
 use Rattle.xds_notes.specs.declared.ending.End.{End}
 use Rattle.xds_notes.specs.declared.ending.End.TheVariants.{Streams, Stopped, Line, Refused}

@@ -11,7 +11,7 @@
 --     marks_in      the counts of changes that a text says, if it says any
 use Rattle.std.specs.Prelude.{ℕ, List, [], ◌∷◌, ◌++◌, Option, Some, None, codes, decimal, if◌then◌else◌}
 use Rattle.std.specs.Option.{option_map, option_and_then}
-use Rattle.xds_core.specs.declared.catalogues.Marks.{Marks}
+use Rattle.xds_events.specs.declared.catalogues.Marks.{Marks}
 use Rattle.xds_script.specs.Lines.{pieces}
 use Rattle.xds_script.specs.Words.{number_in, is_empty}
 

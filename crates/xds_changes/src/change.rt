@@ -7,7 +7,7 @@ ghost use Rattle.xds_script.specs.ModelSeen.{happening_of};
 ghost use Rattle.xds_changes.specs.Changes.{change_of, change_said, change_in, change_within, most_line, write_of};
 
 use std::alloc::Global;
-use xds_core::Event;
+use xds_events::Event;
 use xds_resource::Refusal;
 use xds_script::{Command, WorldEvent, read_line};
 

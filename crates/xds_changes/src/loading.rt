@@ -2,8 +2,8 @@
 ghost use Rattle.std.specs.Prelude.{◌≡◌, ◌≤◌, None, IfErr, IfOk, OnErr};
 ghost use Rattle.xds_resource.specs.Any.{resource_type, named_body};
 ghost use Rattle.xds_resource.specs.Refusals.{Gives};
-ghost use Rattle.xds_core.specs.Seen.{event_of};
-ghost use Rattle.xds_core.specs.Stores.{all_entries, deleting_at, if_done, putting_at};
+ghost use Rattle.xds_events.specs.Seen.{event_of};
+ghost use Rattle.xds_events.specs.Stores.{all_entries, deleting_at, if_done, putting_at};
 ghost use Rattle.xds_changes.specs.Loads.{HasLoaded, end_by, loading, made_by, number_at};
 
 use crate::change::Change;
@@ -11,7 +11,7 @@ use crate::input::{Hands, take_lines};
 use std::alloc::Global;
 use std::io::Read;
 use std::sync::Wait;
-use xds_core::{Catalogues, Event};
+use xds_events::{Catalogues, Event};
 use xds_message::Batch;
 use xds_notes::End;
 use xds_resource::{AnyResource, Groups, Refusal, TypeName};

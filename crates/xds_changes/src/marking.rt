@@ -6,7 +6,7 @@ ghost use Rattle.xds_script.specs.Words.{is_empty, number_in};
 ghost use Rattle.xds_changes.specs.MarkTexts.{count_first, marks_in, marks_text, most_count, pieces_in, split_first};
 
 use std::alloc::Global;
-use xds_core::Marks;
+use xds_events::Marks;
 use xds_resource::{Refusal, decimal_number};
 
 /// Counts of changes as a text: the five counts in the order of the types' table, with a dot between each two. Refused only by

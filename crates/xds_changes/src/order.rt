@@ -3,7 +3,7 @@ use crate::change::Change;
 use crate::made::Made;
 use crossbeam_channel::{Receiver, Sender};
 use std::alloc::Global;
-use xds_core::{Marks, Reply};
+use xds_events::{Marks, Reply};
 use xds_message::Batch;
 use xds_notes::Fault;
 use xds_resource::{Refusal, Stamp};

@@ -5,7 +5,7 @@ ghost use Rattle.xds_changes.specs.MarkTexts.{pieces_in};
 ghost use Rattle.xds_changes.specs.Queries.{any_writes, key_of, most_wait, replica_in, wait_in, wanted_by, wanted_in, with_key, with_part};
 
 use crate::marking::{is_over, number_within, read_marks, split_first};
-use xds_core::Marks;
+use xds_events::Marks;
 
 /// As many seconds as a request for writes may wait.
 pub const MAX_WAIT: u64 = 300;

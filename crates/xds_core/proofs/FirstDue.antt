@@ -13,9 +13,9 @@ use Rattle.xds_message.specs.declared.draft.Draft.{Draft}
 use Rattle.xds_ledger.specs.Offers.{Offer}
 use Rattle.xds_ledger.specs.Sessions.{Session, sending}
 use Rattle.xds_ledger.specs.declared.variant.VariantName.{VariantName}
-use Rattle.xds_core.specs.Stores.{Store}
+use Rattle.xds_events.specs.Stores.{Store}
 use Rattle.xds_core.specs.Talks.{due_in, is_due}
-use Rattle.xds_core.specs.Streams.{Stream, IsToRespond, looked_at, to_send, first_due, responding, polled, polled_first}
+use Rattle.xds_events.specs.Streams.{Stream, IsToRespond, looked_at, to_send, first_due, responding, polled, polled_first}
 
 alone : (replica : ℕ) (store : Store) (s : Stream) (t : TypeName) (q : Option Offer) → option_map_or (λ u. option_map_or (responding replica store s u) (to_send store s u) (Ok (None, s))) (if is_some q then Some t else None) (Ok (None, s)) ≡ (if is_some q then polled replica store s t else Ok (None, s))
 alone replica store s t None = refl

@@ -22,14 +22,14 @@ use Rattle.xds_catalogue.proofs.Catalogues.{catalogue_of-IsCatalogue}
 use Rattle.xds_catalogue.proofs.Lookups.{get-inserted, get-removed}
 use Rattle.xds_ledger.specs.Listed.{IsLater}
 use Rattle.xds_ledger.proofs.Later.{later_itself, joined_is_later}
-use Rattle.xds_core.specs.Stores.{Store, Batch, merging, putting_at, deleting_at, is_spent, grown, merged, if_done}
+use Rattle.xds_events.specs.Stores.{Store, Batch, merging, putting_at, deleting_at, is_spent, grown, merged, if_done}
 use Rattle.xds_resource.specs.declared.refusal.Refusal.TheVariants.{CounterSpent, NoStream}
 use Rattle.xds_resource.specs.Stamps.{max_counter}
-use Rattle.xds_core.specs.Streams.{Stream, opening}
+use Rattle.xds_events.specs.Streams.{Stream, opening}
 use Rattle.xds_core.specs.Talks.{Followed, followed_opening, StreamFits, StreamStaysFit}
 use Rattle.xds_core.proofs.StreamsFitting.{later_stream_fits, opening_fits}
-use Rattle.xds_core.specs.Events.{Open, Close, Reply, Opened, Closed}
-use Rattle.xds_core.specs.Steps.{Core, step, fresh, with_stream, stream_step}
+use Rattle.xds_events.specs.Events.{Open, Close, Reply, Opened, Closed}
+use Rattle.xds_events.specs.Steps.{Core, step, fresh, with_stream, stream_step}
 use Rattle.xds_core.specs.Lists.{AllFit, streams_of}
 use Rattle.xds_core.proofs.StepLaws.{put_is, delete_is}
 

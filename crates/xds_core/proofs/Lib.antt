@@ -1,4 +1,3 @@
-pub mod Walking
 pub mod Polling
 pub mod FirstDue
 pub mod StreamsFitting

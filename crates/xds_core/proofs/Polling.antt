@@ -17,8 +17,8 @@ use Rattle.xds_ledger.specs.Offers.{Offer}
 use Rattle.xds_ledger.specs.Lists.{Kept, SessionFits}
 use Rattle.xds_ledger.specs.Sessions as sessions
 use Rattle.xds_ledger.specs.Sessions.{Session, HasPolled}
-use Rattle.xds_core.specs.Stores.{Store}
-use Rattle.xds_core.specs.Streams.{Stream, to_send, sent, response_of, responding}
+use Rattle.xds_events.specs.Stores.{Store}
+use Rattle.xds_events.specs.Streams.{Stream, to_send, sent, response_of, responding}
 use Rattle.xds_core.specs.Talks.{Talk, drafted, stream_in, followed, firsts, StreamFits, IsPolled}
 use Rattle.xds_core.proofs.StreamsFitting.{with_kept, placed_fits}
 

@@ -23,11 +23,11 @@ use Rattle.xds_catalogue.specs.Joins.{joined}
 use Rattle.xds_catalogue.specs.Local.{greatest_counter, greatest_counter_of, next_counter, putting, deleting, has_live}
 use Rattle.xds_catalogue.proofs.Counters.{counter-le, greatest_counter_of-le, greatest_counter-held}
 use Rattle.xds_catalogue.proofs.Lookups.{get-inserted, get-removed}
-use Rattle.xds_core.specs.Stores.{Store, Batch, merging, putting_at, deleting_at, if_done, is_spent, grown, merged}
-use Rattle.xds_core.specs.Streams.{Stream, opening, requested, looked_at, polled_first, owes_some}
-use Rattle.xds_core.specs.Events.{Event, Open, Request, Poll, Owes, Close, Put, Delete, Merge, Snapshot, Rest, Since, Reply, Opened, Answered, Polled, Owed, Closed, Written, Merged}
-use Rattle.xds_core.specs.Steps.{Core, step, stream_step, with_stream}
-use Rattle.xds_core.specs.Legal.{after, left_by, answer_of, IsLegal}
+use Rattle.xds_events.specs.Stores.{Store, Batch, merging, putting_at, deleting_at, if_done, is_spent, grown, merged}
+use Rattle.xds_events.specs.Streams.{Stream, opening, requested, looked_at, polled_first, owes_some}
+use Rattle.xds_events.specs.Events.{Event, Open, Request, Poll, Owes, Close, Put, Delete, Merge, Snapshot, Rest, Since, Reply, Opened, Answered, Polled, Owed, Closed, Written, Merged}
+use Rattle.xds_events.specs.Steps.{Core, step, stream_step, with_stream}
+use Rattle.xds_events.specs.Legal.{after, left_by, answer_of, IsLegal}
 use Rattle.xds_core.specs.Laws.{RefusalsChangeNothing, BeginningsAreLegal, EndsAreLegal, EventsDecide, StreamsStandApart, is_write, OnlyWritesChangeTheStore, NumberStays, CountersNeverFall, OwnCountersRise, OwnDeletionsRise}
 
 -- rule: refused-event

@@ -10,14 +10,14 @@ use Rattle.xds_resource.specs.declared.refusal.Refusal.{Refusal}
 use Rattle.xds_resource.specs.declared.refusal.Refusal.TheVariants.{OutOfMemory, NoStream}
 use Rattle.xds_resource.specs.Refusals.{Gives}
 use Rattle.xds_catalogue.proofs.Lookups.{insert-insert, twice}
-use Rattle.xds_core.specs.Stores.{if_done}
+use Rattle.xds_events.specs.Stores.{if_done}
 use Rattle.xds_resource.specs.declared.types.TypeName.{TypeName}
-use Rattle.xds_core.specs.Streams.{Stream, IsToRespond, looked_at}
-use Rattle.xds_core.specs.Events.{Reply, Poll}
-use Rattle.xds_core.specs.declared.event.Reply as declared
-use Rattle.xds_core.specs.Seen.{reply_of}
-use Rattle.xds_core.specs.Legal.{IsShort}
-use Rattle.xds_core.specs.Steps.{Core, with_stream, stream_step}
+use Rattle.xds_events.specs.Streams.{Stream, IsToRespond, looked_at}
+use Rattle.xds_events.specs.Events.{Reply, Poll}
+use Rattle.xds_events.specs.declared.event.Reply as declared
+use Rattle.xds_events.specs.Seen.{reply_of}
+use Rattle.xds_events.specs.Legal.{IsShort}
+use Rattle.xds_events.specs.Steps.{Core, with_stream, stream_step}
 
 -- something is there after an insertion
 pub there : {X : Type 0} (m : FinMap nat_cmp X) (n : ℕ) (x : X) → IsSome (finmap.get (finmap.insert m n x) n)

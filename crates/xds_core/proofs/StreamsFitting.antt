@@ -12,7 +12,7 @@ use Rattle.xds_ledger.specs.Listed.{IsLater, unlisted}
 use Rattle.xds_ledger.specs.Lists.{Kept, SessionFits, StaysFit}
 use Rattle.xds_ledger.specs.Sessions.{unopened}
 use Rattle.xds_ledger.proofs.Keeping.{later_session_fits, new_kept_fits}
-use Rattle.xds_core.specs.Stores.{Store}
+use Rattle.xds_events.specs.Stores.{Store}
 use Rattle.xds_core.specs.Talks.{Talk, begun, kept_at, Followed, followed, followed_opening, StreamFits, StreamStaysFit}
 
 abbrev variant_or : VariantName → Option VariantName → VariantName

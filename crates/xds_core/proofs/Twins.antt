@@ -8,14 +8,14 @@ use Rattle.xds_resource.specs.declared.refusal.Refusal.{Refusal}
 use Rattle.xds_resource.specs.declared.refusal.Refusal.TheVariants.{OutOfMemory, NoStream, CounterSpent}
 use Rattle.xds_resource.specs.Refusals.{Gives}
 use Rattle.xds_resource.specs.Stamps.{max_counter}
-use Rattle.xds_core.specs.Stores.{if_done, putting_at, deleting_at, merging}
+use Rattle.xds_events.specs.Stores.{if_done, putting_at, deleting_at, merging}
 use Rattle.xds_core.specs.Talks.{firsts}
-use Rattle.xds_core.specs.Streams.{Stream, requested}
-use Rattle.xds_core.specs.Events.{Event, Open, Request, Poll, Owes, Close, Put, Delete, Merge, Snapshot, Rest, Since, Reply, Opened, Answered, Written, Merged}
-use Rattle.xds_core.specs.declared.event.Reply as declared
-use Rattle.xds_core.specs.Seen.{reply_of}
-use Rattle.xds_core.specs.Steps.{Core, Step, step, with_stream}
-use Rattle.xds_core.specs.Twice.{is_light, poll_in, IsShortBeside}
+use Rattle.xds_events.specs.Streams.{Stream, requested}
+use Rattle.xds_events.specs.Events.{Event, Open, Request, Poll, Owes, Close, Put, Delete, Merge, Snapshot, Rest, Since, Reply, Opened, Answered, Written, Merged}
+use Rattle.xds_events.specs.declared.event.Reply as declared
+use Rattle.xds_events.specs.Seen.{reply_of}
+use Rattle.xds_events.specs.Steps.{Core, Step, step, with_stream}
+use Rattle.xds_events.specs.Twice.{is_light, poll_in, IsShortBeside}
 
 -- ---- from the first of two replies
 

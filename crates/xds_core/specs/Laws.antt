@@ -18,9 +18,9 @@ use Rattle.xds_resource.specs.declared.refusal.Refusal.{Refusal}
 use Rattle.xds_resource.specs.PerType.{at}
 use Rattle.xds_resource.specs.Resources.{NamedBody}
 use Rattle.xds_catalogue.specs.Local.{greatest_counter}
-use Rattle.xds_core.specs.Events.{Event, Open, Request, Poll, Owes, Close, Put, Delete, Merge, Snapshot, Rest, Since, Written}
-use Rattle.xds_core.specs.Steps.{Core, step}
-use Rattle.xds_core.specs.Legal.{Record, after, replayed, IsLegal}
+use Rattle.xds_events.specs.Events.{Event, Open, Request, Poll, Owes, Close, Put, Delete, Merge, Snapshot, Rest, Since, Written}
+use Rattle.xds_events.specs.Steps.{Core, step}
+use Rattle.xds_events.specs.Legal.{Record, after, replayed, IsLegal}
 
 -- rule: refused-event
 -- a refused event changes nothing

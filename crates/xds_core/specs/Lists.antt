@@ -9,8 +9,8 @@ use Rattle.xds_resource.specs.declared.types.TypeName.{TypeName}
 use Rattle.xds_resource.specs.PerType.{at}
 use Rattle.xds_catalogue.specs.Holdings.{IsCatalogue}
 use Rattle.xds_catalogue.specs.Tables.{by_number}
-use Rattle.xds_core.specs.Stores.{Store}
-use Rattle.xds_core.specs.Streams.{Stream}
+use Rattle.xds_events.specs.Stores.{Store}
+use Rattle.xds_events.specs.Streams.{Stream}
 use Rattle.xds_core.specs.Talks.{Followed, StreamFits}
 
 -- the streams without their lists

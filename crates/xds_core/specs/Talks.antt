@@ -36,8 +36,8 @@ use Rattle.xds_sessions.specs.DeltaPolls as delta
 use Rattle.xds_ledger.specs.Listed.{Listed, listed_code, unlisted}
 use Rattle.xds_ledger.specs.Lists.{Kept, SessionFits}
 use Rattle.xds_ledger.specs.Sessions.{Session, session_code, unopened, sending}
-use Rattle.xds_core.specs.Stores.{Store}
-use Rattle.xds_core.specs.Streams.{Stream, stream_code, IsToRespond, opening, to_send, polled}
+use Rattle.xds_events.specs.Stores.{Store}
+use Rattle.xds_events.specs.Streams.{Stream, stream_code, IsToRespond, opening, to_send, polled}
 
 -- a response of the variant with this offer, to a client of this interest, as the one of a number
 abbrev pub drafted : ℕ → TypeName → Holdings → Selection → VariantName → Offer → ℕ → Draft

@@ -6,24 +6,24 @@ ghost use Rattle.xds_resource.specs.PerType.{at, each, with_at};
 ghost use Rattle.xds_resource.specs.Refusals.{Gives};
 ghost use Rattle.xds_resource.specs.Types.{types};
 ghost use Rattle.xds_resource.specs.declared.refusal.Refusal.TheVariants.{OutOfMemory};
-ghost use Rattle.xds_core.specs.Events as events;
-ghost use Rattle.xds_core.specs.Legal.{IsShort};
-ghost use Rattle.xds_core.specs.Seen.{message_of, event_of, reply_of};
-ghost use Rattle.xds_core.specs.Steps.{fresh, step, rested};
-ghost use Rattle.xds_core.specs.Counts.{counts_of};
-ghost use Rattle.xds_core.specs.Twice.{IsShortBeside, poll_in};
-ghost use Rattle.xds_core.specs.Stores.{if_done};
-ghost use Rattle.xds_core.specs.declared.event.Reply.TheVariants as replies;
+ghost use Rattle.xds_events.specs.Events as events;
+ghost use Rattle.xds_events.specs.Legal.{IsShort};
+ghost use Rattle.xds_events.specs.Seen.{message_of, event_of, reply_of};
+ghost use Rattle.xds_events.specs.Steps.{fresh, step, rested};
+ghost use Rattle.xds_events.specs.Counts.{counts_of};
+ghost use Rattle.xds_events.specs.Twice.{IsShortBeside, poll_in};
+ghost use Rattle.xds_events.specs.Stores.{if_done};
+ghost use Rattle.xds_events.specs.declared.event.Reply.TheVariants as replies;
 ghost use Rattle.xds_core.specs.Talks.{firsts};
-ghost use Rattle.xds_core.specs.Streams.{looked_at, owes_some, first_due};
+ghost use Rattle.xds_events.specs.Streams.{looked_at, owes_some, first_due};
 
-use crate::catalogues::{Catalogues, Marks};
-use crate::event::{Event, Reply};
-use crate::request::Request;
 use crate::stream::Stream;
 use std::alloc::Global;
 use std::marker::Model;
 use xds_catalogue::ByNumber;
+use xds_events::catalogues::{Catalogues, Marks};
+use xds_events::event::{Event, Reply};
+use xds_events::request::Request;
 use xds_interest::ClusterText;
 use xds_ledger::Outcome;
 use xds_message::{Batch, Draft, SotwDraft};
@@ -58,8 +58,8 @@ impl Model for Core {
     ghost use Rattle.std.specs.Prelude.{◌≤◌};
     ghost use Rattle.xds_resource.specs.Stamps.{max_counter};
     ghost use Rattle.xds_core.specs.Lists.{AllFit, streams_of};
-    ghost use Rattle.xds_core.specs.Steps as steps;
-    ghost use Rattle.xds_core.specs.Steps.{core_code};
+    ghost use Rattle.xds_events.specs.Steps as steps;
+    ghost use Rattle.xds_events.specs.Steps.{core_code};
 
     ghost Value = { steps.Core };
 

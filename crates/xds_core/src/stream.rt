@@ -2,17 +2,17 @@
 ghost use Rattle.std.specs.Prelude.{◌≡◌, if◌then◌else◌, Some, None, IfSome, IsOk, IfOk, IfErr, OnOk, OnErr};
 ghost use Rattle.xds_resource.specs.Refusals.{Gives};
 ghost use Rattle.xds_resource.specs.declared.refusal.Refusal.TheVariants.{OutOfMemory};
-ghost use Rattle.xds_core.specs.Streams.{IsToRespond, looked_at, opening, owes_some, polled_first, requested};
-ghost use Rattle.xds_core.specs.StreamsSeen.{message_of};
+ghost use Rattle.xds_events.specs.Streams.{IsToRespond, looked_at, opening, owes_some, polled_first, requested};
+ghost use Rattle.xds_events.specs.StreamsSeen.{message_of};
 ghost use Rattle.xds_core.specs.Talks.{firsts, followed_opening, is_due, StreamFits, StreamStaysFit};
 ghost use Rattle.xds_core.specs.States.{followed_of};
 
-use crate::catalogues::Catalogues;
-use crate::parts::put;
-use crate::request::Request;
 use crate::talk::Talk;
 use std::alloc::Global;
 use std::marker::Model;
+use xds_events::catalogues::Catalogues;
+use xds_events::parts::put;
+use xds_events::request::Request;
 use xds_ledger::{Delta, Outcome, StateOfTheWorld};
 use xds_message::Draft;
 use xds_resource::{Refusal, TypeName};

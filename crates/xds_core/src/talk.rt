@@ -5,14 +5,14 @@ ghost use Rattle.xds_resource.specs.Refusals.{Gives};
 ghost use Rattle.xds_resource.specs.Types.{types};
 ghost use Rattle.xds_resource.specs.declared.refusal.Refusal.TheVariants.{OutOfMemory};
 ghost use Rattle.xds_ledger.specs.Sessions.{outcome, unopened};
-ghost use Rattle.xds_core.specs.Streams.{IsToRespond, answered, cluster_of, looked_at, nonce_of, session_after, owes_of, owes_some, to_send, polled_first};
+ghost use Rattle.xds_events.specs.Streams.{IsToRespond, answered, cluster_of, looked_at, nonce_of, session_after, owes_of, owes_some, to_send, polled_first};
 ghost use Rattle.xds_core.specs.Talks.{IsPolled, StreamFits, StreamStaysFit, begun, firsts, followed, followed_opening, is_due, stream_in};
 
-use crate::catalogues::Catalogues;
-use crate::parts::five;
 use crate::variants::{Tongue, poll_one};
 use std::alloc::Global;
 use std::marker::Model;
+use xds_events::catalogues::Catalogues;
+use xds_events::parts::five;
 use xds_interest::ClusterText;
 use xds_ledger::{Nonces, Outcome};
 use xds_message::Draft;

@@ -10,12 +10,12 @@ ghost use Rattle.xds_message.specs.declared.draft.Draft.TheVariants as drafts;
 ghost use Rattle.xds_resource.specs.Stamps.{max_counter};
 ghost use Rattle.xds_resource.specs.declared.refusal.Refusal.TheVariants.{OutOfMemory, NonceSpent};
 ghost use Rattle.xds_resource.specs.declared.types.TypeName.{TypeName};
-ghost use Rattle.xds_core.specs.Streams as streams;
-ghost use Rattle.xds_core.specs.Streams.{nonce_of, url_of, cluster_of, session_after};
+ghost use Rattle.xds_events.specs.Streams as streams;
+ghost use Rattle.xds_events.specs.Streams.{nonce_of, url_of, cluster_of, session_after};
 ghost use Rattle.xds_core.specs.Talks.{drafted};
 
-use crate::request::cluster_in;
 use std::alloc::Global;
+use xds_events::request::cluster_in;
 use xds_ledger::{Delta, Nonces, Outcome, StateOfTheWorld, Variant};
 use xds_message::{DeltaDiscoveryRequest, DeltaDraft, DiscoveryRequest, Draft, SotwDraft};
 use xds_resource::{Cluster, Endpoint, Listener, Refusal, ResourceType, Route, Secret};
@@ -23,7 +23,7 @@ use xds_sessions::{Published, Session, Speaks};
 
 /// A variant, by its requests.
 pub(crate) trait Hears: Variant {
-    ghost use Rattle.xds_core.specs.Streams.{Message};
+    ghost use Rattle.xds_events.specs.Streams.{Message};
 
     type Request: Drop;
 

@@ -5,9 +5,9 @@ use std::io::{ErrorKind, Read, Write};
 use std::test::Fail;
 use xds_cases::cases::{unfolded, written_out};
 use xds_core::{Core, Event, Request};
+use xds_flows::run_stream;
 use xds_frames::{Counted, Faulty};
 use xds_message::DiscoveryRequest;
-use xds_node::run_stream;
 use xds_resource::Refusal;
 
 /// A reader that gives its bytes in pieces of one size.

@@ -21,7 +21,7 @@ use Rattle.xds_core.specs.Stores.{Store}
 use Rattle.xds_core.specs.Streams.{Stream, Message, opening, requested, answered, sessions_for, is_foreign, variant_of, polled_first, polled, responding, response_of, first_due, to_send, sent}
 use Rattle.xds_core.specs.Events as events
 use Rattle.xds_core.specs.Events.{Event, Reply, Answered, Polled, Opened, Closed}
-use Rattle.xds_core.specs.declared.event.Reply as declared
+use Rattle.xds_events.specs.declared.event.Reply as declared
 use Rattle.xds_core.specs.Seen.{reply_of}
 use Rattle.xds_core.specs.Steps.{Core, step, with_stream}
 use Rattle.xds_core.specs.Legal.{IsShort}

@@ -6,7 +6,7 @@ use Rattle.xds_resource.specs.declared.refusal.Refusal.TheVariants.{OutOfMemory,
 use Rattle.xds_core.specs.Events.{Event, Reply as Answer, Close}
 use Rattle.xds_core.specs.Legal.{Record}
 use Rattle.xds_core.specs.Seen.{answer_of}
-use Rattle.xds_core.specs.declared.event.Reply.{Reply}
+use Rattle.xds_events.specs.declared.event.Reply.{Reply}
 use Rattle.xds_node.specs.Told.{IsTold, LeavesNoRecord}
 use Rattle.xds_node.specs.WorkersTold.{IsAnswered, IsClosing, IsTried, in_vain}
 

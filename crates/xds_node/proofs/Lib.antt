@@ -1,10 +1,4 @@
-pub mod Pollings
-mod Framing
-pub mod Passing
-pub mod Sendings
 pub mod Askings
-pub mod StreamReadings
-pub mod Turns
 pub mod Weights
 pub mod Numbers
 pub mod Covering
@@ -17,16 +11,6 @@ pub mod InOrder
 pub mod Ending
 pub mod Telling
 pub mod Callings
-pub mod Writings
-pub mod WorkersReadings
-pub mod Tellings
-pub mod Mergings
-pub mod Unpacking
-pub mod Comparing
-pub mod Owings
 mod Fingerprints
-mod Covers
-mod WakesCover
-mod WantsCover
+pub mod Covers
 mod Woken
-mod Orderly

@@ -3,7 +3,7 @@ use Rattle.std.proofs.Common.{◌≡◌, [], ◌∷◌, ◌++◌, Result, Ok, Er
 use Rattle.xds_resource.specs.declared.refusal.Refusal.{Refusal}
 use Rattle.xds_core.specs.Events.{Event}
 use Rattle.xds_core.specs.Seen.{answer_of}
-use Rattle.xds_core.specs.declared.event.Reply.{Reply}
+use Rattle.xds_events.specs.declared.event.Reply.{Reply}
 use Rattle.xds_node.specs.Entries.{AllBelow}
 use Rattle.xds_node.specs.Books.{Books, next_number, record_of}
 use Rattle.xds_node.specs.Told.{Calls, also_told, IsTold}

@@ -1,4 +1,3 @@
-pub mod Waiting
 pub mod Requests
 pub mod Records
 pub mod Sending
@@ -15,14 +14,7 @@ pub mod Told
 pub mod Pieces
 pub mod Wakes
 pub mod WorkersTold
-pub mod Writing
-pub mod Reading
-pub mod Parcels
-pub mod Exchanging
-pub mod TwoNodes
-pub mod Owing
 pub mod Concerns
 pub mod Prints
 pub mod Gathered
-pub mod WakeLaws
 pub mod Sleeping

@@ -24,7 +24,7 @@ use Rattle.xds_frames.specs.Frames.{Framed, IsFrame, IsFault, IsPartial, frame_b
 use Rattle.xds_frames.specs.Devices.{Device, HasFailed, most_calls}
 use Rattle.xds_core.specs.StreamsSeen.{message_of}
 use Rattle.xds_core.specs.Streams.{Message}
-use Rattle.xds_core.specs.declared.request.Request.{Request}
+use Rattle.xds_events.specs.declared.request.Request.{Request}
 use Rattle.xds_core.specs.Events.{Reply, Opened, Polled}
 use Rattle.xds_core.specs.Steps.{Core}
 use Rattle.xds_core.specs.Legal.{Record}

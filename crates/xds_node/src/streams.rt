@@ -1,14 +1,3 @@
-// The two halves of a stream, from the bytes of its requests to those of its responses.
+// What the halves of a stream know of a node.
 
-pub mod alone;
-pub mod gating;
 pub mod hosts;
-pub mod known;
-pub mod poll_reader;
-pub mod poll_writer;
-pub mod reader;
-pub mod reading;
-pub mod running;
-pub mod sending;
-pub mod ways;
-pub mod writer;

@@ -5,7 +5,7 @@ use crate::ending::Ending;
 use crate::note::Note;
 use std::alloc::Global;
 use std::sync::{Arc, Mutex, Wait};
-use xds_core::Reply;
+use xds_events::Reply;
 use xds_ledger::{Outcome, VariantName};
 use xds_message::Draft;
 use xds_resource::{Refusal, Stamp};

@@ -6,7 +6,7 @@ ghost use Rattle.xds_stats.specs.Looks.{counted_more, held_by_count, held_of};
 use crate::numbers::more;
 use crate::sizes::response_bytes;
 use std::alloc::Global;
-use xds_core::{Marks, Reply};
+use xds_events::{Marks, Reply};
 use xds_message::Batch;
 use xds_resource::{Refusal, ResourceType, TypeName, Write};
 

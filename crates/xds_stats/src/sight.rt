@@ -1,7 +1,7 @@
 // What an event at a replica shows of a stream, kept for those who look while the event goes on to the replica.
 use crate::log_event::excerpt;
 use std::alloc::Global;
-use xds_core::{Event, Request};
+use xds_events::{Event, Request};
 use xds_json::Node;
 use xds_ledger::VariantName;
 use xds_message::{DeltaDiscoveryRequest, DiscoveryRequest};

@@ -15,7 +15,7 @@ use std::time::{Clock, Duration};
 use tokio::io::AsyncRead;
 use tokio::net::OwnedReadHalf;
 use tokio::time::{Handle, Sleep};
-use xds_node::KnownRead;
+use xds_flows::KnownRead;
 
 // Within how many seconds a line that has begun has to come whole.
 const LINE_SECONDS: u64 = 1;

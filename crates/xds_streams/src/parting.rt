@@ -3,9 +3,10 @@ use std::alloc::Global;
 use std::sync::Wait;
 use tokio::net::OwnedWriteHalf;
 use xds_core::Event;
+use xds_flows::{ByPolls, Writes};
 use xds_frames::Counted;
 use xds_message::{Draft, Unsent};
-use xds_node::{ByPolls, Host, NoGate, Writes, called, draft_in};
+use xds_node::{Host, NoGate, called, draft_in};
 use xds_resource::Refusal;
 
 /// What was due at the end of a stream, in its order, how much of that is begun, and why a response that was due isn't among it.

@@ -17,7 +17,7 @@ use Rattle.xds_message.proofs.BatchLemmas.{map-take-more}
 use Rattle.xds_core.specs.Events.{Event, Reply}
 use Rattle.xds_core.specs.Steps.{Core, fresh}
 use Rattle.xds_core.specs.Legal.{Record, IsLegal, after}
-use Rattle.xds_core.specs.declared.event.Record as made
+use Rattle.xds_events.specs.declared.event.Record as made
 use Rattle.xds_check.specs.declared.line.Line.{Line}
 use Rattle.xds_check.specs.declared.line.Line.TheVariants as lines
 use Rattle.xds_check.specs.Rules.{NoneBroken}

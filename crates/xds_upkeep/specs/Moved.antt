@@ -3,7 +3,7 @@
 --     has_moved   whether a replica whose counts these are, if they are known, has changed after others
 --     greatest    counts after which nothing changes: of each type the greatest that there is
 use Rattle.std.specs.Prelude.{Bool, false, not, ◌&&◌, nat_le, Option, Some, None}
-use Rattle.xds_core.specs.declared.catalogues.Marks.{Marks}
+use Rattle.xds_events.specs.declared.catalogues.Marks.{Marks}
 use Rattle.xds_changes.specs.MarkTexts.{most_count}
 
 -- whether all changes that the second counts have are among those of the first

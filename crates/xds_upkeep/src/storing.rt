@@ -1,6 +1,6 @@
 // A store while a server runs: it is told what changes at each replica, as one more peer of all of them.
 ghost use Rattle.std.specs.Prelude.{◌≡◌, true, string_bytes, IfOk};
-ghost use Rattle.xds_core.specs.declared.catalogues.Marks.{Marks};
+ghost use Rattle.xds_events.specs.declared.catalogues.Marks.{Marks};
 ghost use Rattle.xds_upkeep.specs.Moved.{greatest, has_all};
 
 use std::alloc::Global;

@@ -9,12 +9,10 @@ use std::alloc::Global;
 use std::test::Fail;
 use xds_core::{Event, Request};
 use xds_exchange::{Incoming, Outgoing, link};
+use xds_flows::{Ended, Parcel, Receipt, exchange_in, exchange_out, serve_reader, serve_writer};
 use xds_frames::{Counted, Faulty, FrameKind, write_frame};
 use xds_message::DiscoveryRequest;
-use xds_node::{
-    Ended, Gate, Host, Parcel, Receipt, called, exchange_in, exchange_out, serve_reader,
-    serve_writer,
-};
+use xds_node::{Gate, Host, called};
 use xds_resource::Refusal;
 
 /// The refusal, if it is one.

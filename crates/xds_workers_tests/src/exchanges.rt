@@ -13,10 +13,8 @@ use std::test::Fail;
 use std::thread::{Threads, join};
 use xds_core::Marks;
 use xds_exchange::{Incoming, Outgoing, link};
-use xds_node::{
-    Ended, Host, JournalLine, NodeName, Opened, Parcel, Receipt, SharedNode, exchange_both,
-    exchange_in, exchange_out,
-};
+use xds_flows::{Ended, Parcel, Receipt, exchange_both, exchange_in, exchange_out};
+use xds_node::{Host, JournalLine, NodeName, Opened, SharedNode};
 use xds_resource::Refusal;
 
 /// The marks of a node that holds nothing.

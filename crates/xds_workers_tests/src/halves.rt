@@ -15,11 +15,10 @@ use std::sync::{Mutex, Wait};
 use std::test::Fail;
 use tokio::io::{AsyncRead, AsyncWrite};
 use xds_core::{Event, Request};
+use xds_flows::{KnownRead, KnownWrite, Reading, ReadingHalf, Writing, WritingHalf};
 use xds_frames::{Counted, Decoder, FrameKind, write_frame};
 use xds_message::{DiscoveryRequest, Unsent};
-use xds_node::{
-    Gate, Host, KnownRead, KnownWrite, Place, Reading, ReadingHalf, Writing, WritingHalf,
-};
+use xds_node::{Gate, Host, Place};
 use xds_resource::{AnyResource, Groups, Refusal};
 
 const TAKEN: &[u8] = b"{\"responseNonce\":\"1\",\

@@ -15,8 +15,9 @@ use std::sync::Wait;
 use std::test::Fail;
 use std::thread::{Threads, join};
 use xds_exchange::{Incoming, Outgoing, link};
+use xds_flows::{Parcel, Receipt, exchange_in};
 use xds_frames::{FrameKind, write_frame};
-use xds_node::{Host, JournalLine, NodeName, Opened, Parcel, Receipt, exchange_in};
+use xds_node::{Host, JournalLine, NodeName, Opened};
 use xds_resource::Refusal;
 
 // Puts two batches of one parcel each, and then no more.

@@ -2,8 +2,8 @@
 use crate::alone::outcome;
 use std::alloc::Global;
 use std::test::Fail;
+use xds_flows::Parcel;
 use xds_message::Batch;
-use xds_node::Parcel;
 use xds_resource::Refusal;
 
 // Fails unless these bytes, as a parcel, are what is wanted.

@@ -10,8 +10,9 @@ use std::io::Read;
 use std::marker::Brand;
 use std::test::Fail;
 use std::thread::{Threads, join};
+use xds_flows::{serve_reader, serve_writer};
 use xds_frames::{Counted, FrameKind, write_frame};
-use xds_node::{Host, JournalLine, NodeName, Opened, SharedNode, serve_reader, serve_writer};
+use xds_node::{Host, JournalLine, NodeName, Opened, SharedNode};
 use xds_resource::Refusal;
 
 pub(crate) const REQUEST: &[u8] =

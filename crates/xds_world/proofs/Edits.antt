@@ -8,7 +8,7 @@ use Rattle.std.specs.FinMap.{FinMap}
 use Rattle.xds_resource.specs.declared.refusal.Refusal.{Refusal}
 use Rattle.xds_core.specs.Events as events
 use Rattle.xds_core.specs.Events.{Event}
-use Rattle.xds_core.specs.declared.event.Reply.{Reply}
+use Rattle.xds_events.specs.declared.event.Reply.{Reply}
 use Rattle.xds_core.specs.Seen.{reply_of}
 use Rattle.xds_core.specs.Steps.{Step, step}
 use Rattle.xds_core.proofs.StreamSteps.{put_twice, put_back}

@@ -32,8 +32,8 @@ pub fn draft_in(reply: Reply) -> Option<Draft>
     }
 }
 
-// Opens a stream, and answers its number.
-pub(crate) fn open(core: &mut Core) -> Result<u64, Refusal>
+/// Opens a stream, and answers its number.
+pub fn open(core: &mut Core) -> Result<u64, Refusal>
     ensures ok { IfOk result (λ n. step core.old events.Open ≡ Ok (events.Opened n, core.new)) }
     ensures open { IfOk result (λ n. IsOpen n core.new) }
     ensures refused { IfErr result (Refuses core.old events.Open) }
@@ -43,8 +43,8 @@ pub(crate) fn open(core: &mut Core) -> Result<u64, Refusal>
     Ok(number_in(reply))
 }
 
-// Hands a request to the replica.
-pub(crate) fn ask(core: &mut Core, stream: u64, request: Request) -> Result<(), Refusal>
+/// Hands a request to the replica.
+pub fn ask(core: &mut Core, stream: u64, request: Request) -> Result<(), Refusal>
     requires { IsOpen stream core.old }
     ensures ok { IfOk result (λ _. (o : Outcome) × (step core.old (events.Request stream (message_of request)) ≡ Ok (events.Answered o, core.new))) }
     ensures open { IsOpen stream core.new }
@@ -55,8 +55,8 @@ pub(crate) fn ask(core: &mut Core, stream: u64, request: Request) -> Result<(), 
     Ok(())
 }
 
-// The next response of any type, if there is one.
-pub(crate) fn poll(core: &mut Core, stream: u64) -> Result<Option<Draft>, Refusal>
+/// The next response of any type, if there is one.
+pub fn poll(core: &mut Core, stream: u64) -> Result<Option<Draft>, Refusal>
     requires { IsOpen stream core.old }
     ensures ok { IfOk result (λ d. step core.old (events.Poll stream None) ≡ Ok (events.Polled d, core.new)) }
     ensures open { IsOpen stream core.new }
@@ -68,8 +68,8 @@ pub(crate) fn poll(core: &mut Core, stream: u64) -> Result<Option<Draft>, Refusa
     Ok(draft_in(reply))
 }
 
-// Closes an open stream. It needs no memory.
-pub(crate) fn close(core: &mut Core, stream: u64)
+/// Closes an open stream. It needs no memory.
+pub fn close(core: &mut Core, stream: u64)
     requires { IsOpen stream core.old }
     ensures { step core.old (events.Close stream) ≡ Ok (events.Closed, core.new) }
 {

@@ -72,8 +72,8 @@ fn called_again<H: Host, R: Wait>(
     }
 }
 
-// One event of a seat: its reply, or the refusal, of which there may be a record or none.
-pub(crate) fn answered<H: Host, G: Gate<H::Segment>, R: Wait>(
+/// One event of a seat: its reply, or the refusal, of which there may be a record or none.
+pub fn answered<H: Host, G: Gate<H::Segment>, R: Wait>(
     rt: &R,
     node: &H,
     gate: &G,
@@ -90,8 +90,8 @@ pub(crate) fn answered<H: Host, G: Gate<H::Segment>, R: Wait>(
     }
 }
 
-// Asks for the close of a stream. A close that is refused leaves it as it is.
-pub(crate) fn close<H: Host, G: Gate<H::Segment>, R: Wait>(
+/// Asks for the close of a stream. A close that is refused leaves it as it is.
+pub fn close<H: Host, G: Gate<H::Segment>, R: Wait>(
     rt: &R,
     node: &H,
     gate: &G,

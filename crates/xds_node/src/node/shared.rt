@@ -241,7 +241,8 @@ impl<N: NodeName> SharedNode<N> {
 }
 
 // rule: wake-ups
-pub(crate) fn differ(marks: Marks, seen: Marks) -> bool
+/// Whether some type was written between the marks.
+pub fn differ(marks: Marks, seen: Marks) -> bool
     ensures { MatchBool result (counts_of marks ≢ counts_of seen) (counts_of marks ≡ counts_of seen) }
 {
     marks.cluster != seen.cluster

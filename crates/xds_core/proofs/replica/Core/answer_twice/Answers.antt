@@ -1,4 +1,4 @@
-use Rattle.xds_core.specs.Seen.{event_of}
+use Rattle.xds_events.specs.Seen.{event_of}
 use Rattle.xds_core.proofs.Twins.{both_give, both_alike, both_kept, both_short}
 use Rattle.xds_core.proofs.replica.Core.answer_twice.Goals as goal
 

@@ -1,9 +1,9 @@
 use Rattle.std.proofs.Common.{sym, ap, subst, ◌∙◌}
 use Rattle.xds_resource.specs.Refusals.{Gives}
-use Rattle.xds_core.specs.Events.{Close}
+use Rattle.xds_events.specs.Events.{Close}
 use Rattle.xds_core.specs.Lists.{streams_of}
-use Rattle.xds_core.specs.Seen.{reply_of}
-use Rattle.xds_core.specs.Steps.{Core, step}
+use Rattle.xds_events.specs.Seen.{reply_of}
+use Rattle.xds_events.specs.Steps.{Core, step}
 use Rattle.xds_core.proofs.Fitting.{closed_fits, closed_step, no_stream_step}
 use Rattle.xds_core.proofs.StreamSteps.{with_streams}
 use Rattle.xds_core.proofs.replica.Core.close.Goals as goal

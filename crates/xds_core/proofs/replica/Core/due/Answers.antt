@@ -3,7 +3,7 @@ use Rattle.std.specs.Prelude.{is_some}
 use Rattle.std.specs.Option.{option_map}
 use Rattle.std.specs.FinMap as finmap
 use Rattle.xds_resource.specs.Types.{types}
-use Rattle.xds_core.specs.Streams.{first_due}
+use Rattle.xds_events.specs.Streams.{first_due}
 use Rattle.xds_core.specs.Talks.{Followed}
 use Rattle.xds_core.proofs.FirstDue.{due_is}
 use Rattle.xds_core.proofs.Fitting.{looked}

@@ -1,7 +1,7 @@
 use Rattle.std.proofs.Common.{◌+◌, sym, ap, subst, ◌∙◌, arith, ne_eqb}
 use Rattle.xds_resource.specs.Stamps.{max_counter}
 use Rattle.xds_core.specs.Lists.{AllFit, streams_of}
-use Rattle.xds_core.specs.Steps.{Core}
+use Rattle.xds_events.specs.Steps.{Core}
 use Rattle.xds_core.proofs.Fitting.{opened_fits, opened_step}
 use Rattle.xds_core.proofs.replica.Core.open.Goals as goal
 

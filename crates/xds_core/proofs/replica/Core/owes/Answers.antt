@@ -1,7 +1,7 @@
 use Rattle.std.proofs.Common.{Some, sym, ap, ◌∙◌}
 use Rattle.std.specs.Option.{option_map}
 use Rattle.std.specs.FinMap as finmap
-use Rattle.xds_core.specs.Streams.{looked_at, owes_some}
+use Rattle.xds_events.specs.Streams.{looked_at, owes_some}
 use Rattle.xds_core.specs.Talks.{Followed}
 use Rattle.xds_core.proofs.Fitting.{looked}
 use Rattle.xds_core.proofs.replica.Core.owes.Goals as goal

@@ -2,11 +2,11 @@ use Rattle.std.proofs.Common.{◌≡◌, sym, subst}
 use Rattle.std.specs.Prelude.{IfErr, OnErr}
 use Rattle.xds_resource.specs.Refusals.{Gives}
 use Rattle.xds_resource.specs.declared.refusal.Refusal.TheVariants.{OutOfMemory}
-use Rattle.xds_core.specs.Events as events
-use Rattle.xds_core.specs.Legal.{IsShort}
-use Rattle.xds_core.specs.Seen.{reply_of}
-use Rattle.xds_core.specs.Steps.{step}
-use Rattle.xds_core.specs.declared.event.Reply.TheVariants as replies
+use Rattle.xds_events.specs.Events as events
+use Rattle.xds_events.specs.Legal.{IsShort}
+use Rattle.xds_events.specs.Seen.{reply_of}
+use Rattle.xds_events.specs.Steps.{step}
+use Rattle.xds_events.specs.declared.event.Reply.TheVariants as replies
 use Rattle.xds_core.proofs.Twins.{done_short, done_kept}
 use Rattle.xds_core.proofs.replica.Core.poll.Goals as goal
 

@@ -3,11 +3,11 @@ use Rattle.std.specs.Prelude.{IsSome, IfNone}
 use Rattle.std.specs.FinMap as finmap
 use Rattle.xds_resource.specs.Refusals.{Gives}
 use Rattle.xds_resource.specs.declared.refusal.Refusal.TheVariants.{OutOfMemory}
-use Rattle.xds_core.specs.Stores.{if_done}
-use Rattle.xds_core.specs.Events as events
-use Rattle.xds_core.specs.Legal.{IsShort}
-use Rattle.xds_core.specs.declared.event.Reply.TheVariants as replies
-use Rattle.xds_core.specs.Streams.{looked_at, polled_first}
+use Rattle.xds_events.specs.Stores.{if_done}
+use Rattle.xds_events.specs.Events as events
+use Rattle.xds_events.specs.Legal.{IsShort}
+use Rattle.xds_events.specs.declared.event.Reply.TheVariants as replies
+use Rattle.xds_events.specs.Streams.{looked_at, polled_first}
 use Rattle.xds_core.specs.Talks.{firsts, StreamFits}
 use Rattle.xds_core.proofs.StreamsFitting.{opening_fits}
 use Rattle.xds_core.specs.Lists.{AllFit, streams_of}

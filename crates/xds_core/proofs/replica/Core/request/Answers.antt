@@ -1,10 +1,10 @@
 use Rattle.std.proofs.Common.{◌≡◌, Some, refl, sym, ap, subst, ◌∙◌}
 use Rattle.std.specs.Prelude.{IsSome, IfNone}
 use Rattle.std.specs.FinMap as finmap
-use Rattle.xds_core.specs.Events as events
-use Rattle.xds_core.specs.Seen.{message_of}
-use Rattle.xds_core.specs.declared.event.Reply.TheVariants as replies
-use Rattle.xds_core.specs.Streams.{requested}
+use Rattle.xds_events.specs.Events as events
+use Rattle.xds_events.specs.Seen.{message_of}
+use Rattle.xds_events.specs.declared.event.Reply.TheVariants as replies
+use Rattle.xds_events.specs.Streams.{requested}
 use Rattle.xds_core.specs.Talks.{StreamFits}
 use Rattle.xds_core.proofs.StreamsFitting.{opening_fits}
 use Rattle.xds_core.specs.Lists.{AllFit, streams_of}

@@ -2,10 +2,10 @@ use Rattle.std.proofs.Common.{◌≡◌, sym, subst, ◌∙◌}
 use Rattle.std.specs.Prelude.{IfErr}
 use Rattle.xds_resource.specs.Refusals.{Gives}
 use Rattle.xds_resource.specs.declared.refusal.Refusal.TheVariants.{OutOfMemory}
-use Rattle.xds_core.specs.Events as events
-use Rattle.xds_core.specs.Seen.{event_of, reply_of}
-use Rattle.xds_core.specs.Steps.{step}
-use Rattle.xds_core.specs.Twice.{IsShortBeside}
+use Rattle.xds_events.specs.Events as events
+use Rattle.xds_events.specs.Seen.{event_of, reply_of}
+use Rattle.xds_events.specs.Steps.{step}
+use Rattle.xds_events.specs.Twice.{IsShortBeside}
 use Rattle.xds_core.proofs.Twins.{poll_is}
 use Rattle.xds_core.proofs.replica.Core.step_twice.Goals as goal
 

@@ -1,7 +1,7 @@
 use Rattle.std.proofs.Common.{◌≡◌, sym, subst}
 use Rattle.std.specs.Prelude.{IfErr}
 use Rattle.xds_resource.specs.declared.refusal.Refusal.TheVariants.{OutOfMemory}
-use Rattle.xds_core.specs.Streams.{IsToRespond, looked_at}
+use Rattle.xds_events.specs.Streams.{IsToRespond, looked_at}
 use Rattle.xds_core.specs.Talks.{firsts, stream_in}
 use Rattle.xds_core.proofs.FirstDue.{gives_alone}
 use Rattle.xds_core.proofs.talk.Talk.poll.Goals as goal

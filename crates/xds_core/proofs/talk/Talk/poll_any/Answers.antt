@@ -3,7 +3,7 @@ use Rattle.std.specs.Prelude.{is_some, option_map}
 use Rattle.xds_resource.specs.declared.types.TypeName.TheVariants.{Cluster}
 use Rattle.xds_resource.specs.declared.refusal.Refusal.TheVariants.{OutOfMemory}
 use Rattle.xds_resource.specs.Types.{types}
-use Rattle.xds_core.specs.Streams.{IsToRespond, first_due, polled_first, to_send}
+use Rattle.xds_events.specs.Streams.{IsToRespond, first_due, polled_first, to_send}
 use Rattle.xds_core.specs.Talks.{stream_in}
 use Rattle.xds_core.proofs.FirstDue.{any_gives, any_short, due_later, refused_due, silent_left}
 use Rattle.xds_core.proofs.talk.Talk.poll_any.Goals as goal

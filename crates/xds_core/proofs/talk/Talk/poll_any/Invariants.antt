@@ -1,6 +1,6 @@
 use Rattle.std.proofs.Common.{◌≡◌, drop}
 use Rattle.xds_resource.specs.Types.{types}
-use Rattle.xds_core.specs.Streams.{first_due}
+use Rattle.xds_events.specs.Streams.{first_due}
 use Rattle.xds_core.specs.Talks.{StreamFits, followed, stream_in}
 use Rattle.xds_core.proofs.talk.Talk.poll_any.Given as goal
 

@@ -1,0 +1,11 @@
+pub mod Stores
+pub mod Pendings
+pub mod Since
+pub mod Counts
+pub mod Streams
+pub mod StreamsSeen
+pub mod Events
+pub mod Steps
+pub mod Seen
+pub mod Legal
+pub mod Twice

@@ -1,5 +1,0 @@
-use Rattle.xds_node.proofs.Orderly.{replicas_are_orderly}
-use Rattle.xds_node.proofs.laws.replicas_are_orderly.Goals as goal
-
-pub returns : goal.returns
-returns c = replicas_are_orderly

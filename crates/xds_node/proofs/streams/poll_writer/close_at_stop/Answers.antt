@@ -1,8 +1,0 @@
-use Rattle.xds_node.proofs.Owings.{closed, not_closed}
-use Rattle.xds_node.proofs.streams.poll_writer.close_at_stop.Goals as goal
-
-pub returns-in-Ok : goal.returns-in-Ok
-returns-in-Ok g c = not_closed _ _ _ _ c.in-Ok.is
-
-pub returns-in-Err : goal.returns-in-Err
-returns-in-Err g c = closed _ _ _ _ _ _ _ c.in-Err.is c.close.ensures

@@ -1,5 +1,0 @@
-use Rattle.xds_node.proofs.WorkersReadings.{asks_by}
-use Rattle.xds_node.proofs.streams.reader.ask.Goals as goal
-
-pub returns : goal.returns
-returns g c = asks_by _ _ _ _ _ _ c.answered.result c.granted.result c.answered.ensures c.granted.ensures
