@@ -1,5 +1,7 @@
 // Stores that are closed. Where all that was committed stands in the file, no log stays beside it; else the log has it.
-use crate::given::{FIRST, HELD, batch, closed_files, empty, fill, holds, opened, wanted};
+use crate::given::{
+    FIRST, HELD, batch, closed_files, empty, fill, holds, opened, put, take, wanted,
+};
 use crate::paths::{FOLDER, LOG, PATH, begin, is_alone, is_there, run};
 use sqlite_disk::{Disk, Files, Memory};
 use std::alloc::Global;
@@ -45,7 +47,7 @@ fn closes_over_damage(rt: &HostRuntime) -> Result<(bool, bool), Fail> {
 
 // An open store has a batch, and the frames of its log hold other bytes then. Answers the bytes that they held.
 fn damages<D: Disk>(rt: &HostRuntime, store: &mut Store<FileStore<D>>) -> Result<Vec<u8>, Fail> {
-    store.put_batch(&batch(rt.alloc(), FIRST)?)?;
+    put(store, &batch(rt.alloc(), FIRST)?)?;
     let log = fs::read(rt, LOG)?;
     let mut damaged = fs::read(rt, LOG)?;
     for at in FRAMES..log.len() {
@@ -110,7 +112,7 @@ fn a_file_that_was_closed_stands_without_its_log(rt: HostRuntime) -> Result<(), 
 // An open store holds the first batch, and its next number is 2.
 fn goes_on(rt: &HostRuntime, store: &mut Store<FileStore<Memory>>) -> Result<(), Fail> {
     holds(rt.alloc(), store, HELD[1])?;
-    wanted(store.take_numbers(1)? == 2, "the next number")
+    wanted(take(store, 1)? == 2, "the next number")
 }
 
 // What two files are refused as that are to hold a store, and are left empty.

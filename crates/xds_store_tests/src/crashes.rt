@@ -1,6 +1,6 @@
 // A disk that fails at a call, each in turn, and then crashes. What was answered is there at the next open, what
 // wasn't is there whole or not at all, and no number comes twice.
-use crate::given::{batch, held, opened, wanted};
+use crate::given::{batch, held, opened, put, take, wanted};
 use sqlite_disk::{Crash, Files, Fuse, Memory};
 use std::alloc::Global;
 use std::test::Fail;
@@ -43,12 +43,12 @@ fn disks(alloc: Global, log_calls: u64, db_calls: u64) -> Disks {
 }
 
 fn takes(store: &mut Opened, count: u16, answered: &mut Answered) -> Result<(), StoreRefusal> {
-    answered.next = store.take_numbers(count)?.saturating_add(count);
+    answered.next = take(store, count)?.saturating_add(count);
     Ok(())
 }
 
 fn puts(store: &mut Opened, batch: &Batch, answered: &mut Answered) -> Result<(), StoreRefusal> {
-    store.put_batch(batch)?;
+    put(store, batch)?;
     answered.puts = answered.puts.saturating_add(1);
     Ok(())
 }
@@ -107,7 +107,7 @@ fn is_found(alloc: Global, mut disks: Disks, answered: &Answered) -> Result<bool
 // The same, of an open store.
 fn is_found_in(alloc: Global, store: &mut Opened, answered: &Answered) -> Result<bool, Fail> {
     let text = held(alloc, store)?;
-    let next = store.take_numbers(1)?;
+    let next = take(store, 1)?;
     Ok(answered.next <= next && next <= 4 && is_held(text.as_str(), answered.puts))
 }
 

@@ -1,5 +1,5 @@
 // A store in a file: it is made, closed, opened again, and in use.
-use crate::given::{FIRST, HELD, SECOND, fill, holds, wanted};
+use crate::given::{FIRST, HELD, SECOND, fill, holds, take, wanted};
 use sqlite_disk::Disk;
 use std::fs;
 use std::test::Fail;
@@ -47,21 +47,26 @@ fn third_run(rt: &HostRuntime, path: &str) -> Result<(), Fail> {
     used_up(rt, &mut store)
 }
 
+fn take_from<D: Disk>(
+    store: &mut Store<FileStore<D>>,
+    first: u16,
+    count: u16,
+) -> Result<(), StoreRefusal> {
+    store.take_numbers_from(first, count)
+}
+
 // A third run over an open store.
 fn used_up<D: Disk>(rt: &HostRuntime, store: &mut Store<FileStore<D>>) -> Result<(), Fail> {
     wanted(
-        store.take_numbers_from(5, 1) == Err(StoreRefusal::NumberTaken),
+        take_from(store, 5, 1) == Err(StoreRefusal::NumberTaken),
         "numbers",
     )?;
     wanted(
-        store.take_numbers_from(6, 65_531) == Err(StoreRefusal::NumbersUsed),
+        take_from(store, 6, 65_531) == Err(StoreRefusal::NumbersUsed),
         "numbers",
     )?;
-    store.take_numbers_from(65_535, 1)?;
-    wanted(
-        store.take_numbers(1) == Err(StoreRefusal::NumbersUsed),
-        "numbers",
-    )?;
+    take_from(store, 65_535, 1)?;
+    wanted(take(store, 1) == Err(StoreRefusal::NumbersUsed), "numbers")?;
     holds(rt.alloc(), store, HELD[2])
 }
 

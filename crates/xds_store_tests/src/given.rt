@@ -11,7 +11,7 @@ use sqlite_wal::PageSize;
 use std::alloc::Global;
 use std::test::Fail;
 use xds_message::Batch;
-use xds_store::{FileStore, Store, open_files};
+use xds_store::{FileStore, Store, StoreRefusal, open_files};
 
 pub(crate) const FIRST: &str = "{\"writes\":[
 {\"typeUrl\":\"type.googleapis.com/envoy.config.cluster.v3.Cluster\",\"name\":\"b\",\"counter\":3,\"writer\":2,\"groups\":[\"h\\\"\\u0000\",\"g\"],
@@ -39,7 +39,26 @@ pub(crate) fn held<D: Disk>(
     alloc: Global,
     store: &mut Store<FileStore<D>>,
 ) -> Result<String, Fail> {
-    Ok(store.read_all()?.write(alloc)?)
+    Ok(read(store)?.write(alloc)?)
+}
+
+// The calls of a store in files. Each is made here alone, since what a call asks of the store's type is proved where it is made.
+pub(crate) fn read<D: Disk>(store: &mut Store<FileStore<D>>) -> Result<Batch, StoreRefusal> {
+    store.read_all()
+}
+
+pub(crate) fn take<D: Disk>(
+    store: &mut Store<FileStore<D>>,
+    count: u16,
+) -> Result<u16, StoreRefusal> {
+    store.take_numbers(count)
+}
+
+pub(crate) fn put<D: Disk>(
+    store: &mut Store<FileStore<D>>,
+    batch: &Batch,
+) -> Result<(), StoreRefusal> {
+    store.put_batch(batch)
 }
 
 // A store over files that hold one, or nothing.
@@ -62,8 +81,8 @@ pub(crate) fn fill<D: Disk>(
     count: u16,
     text: &str,
 ) -> Result<u16, Fail> {
-    let first = store.take_numbers(count)?;
-    store.put_batch(&batch(alloc, text)?)?;
+    let first = take(store, count)?;
+    put(store, &batch(alloc, text)?)?;
     Ok(first)
 }
 

@@ -1,5 +1,7 @@
 // Files that are no store. Each is refused by what it is, and left as it was.
-use crate::given::{FIRST, HELD, closed_files, database, empty, fill, holds, opened, wanted};
+use crate::given::{
+    FIRST, HELD, closed_files, database, empty, fill, holds, opened, read, take, wanted,
+};
 use sqlite_disk::{Disk, Files, Memory};
 use std::alloc::Global;
 use std::test::Fail;
@@ -89,7 +91,7 @@ fn is_told(alloc: Global, file: &[u8], at: usize) -> Result<bool, Fail> {
 
 // Whether a store holds what it held, or is refused as damaged.
 fn is_sound(alloc: Global, store: &mut Store<FileStore<Memory>>) -> Result<bool, Fail> {
-    match store.read_all() {
+    match read(store) {
         Ok(batch) => Ok(batch.write(alloc)?.as_str() == HELD[1]),
         Err(refusal) => Ok(refusal == StoreRefusal::Damaged),
     }
@@ -144,19 +146,38 @@ fn told_of(
     let mut files = store(alloc)?;
     let at = place_of(files.db.bytes(), bytes).ok_or("the bytes are in the file")?;
     overwrite(&mut files, at, others)?;
+    let (read, taken, files) = damaged(alloc, files)?;
+    mended(alloc, files, at, bytes, if taken.is_some() { 4 } else { 5 })?;
+    Ok((read, taken))
+}
+
+// What a store over these files says, and the files once it is closed.
+fn damaged(
+    alloc: Global,
+    files: Files<Memory>,
+) -> Result<(Option<StoreRefusal>, Option<StoreRefusal>, Files<Memory>), Fail> {
     let mut store = opened(alloc, files, 8)?;
-    let (read, taken) = (store.read_all().err(), store.take_numbers(1).err());
-    let mut files = closed_files(store)?;
+    let (read, taken) = (read(&mut store).err(), take(&mut store, 1).err());
+    Ok((read, taken, closed_files(store)?))
+}
+
+// The bytes are put back, and the store goes on.
+fn mended(
+    alloc: Global,
+    mut files: Files<Memory>,
+    at: usize,
+    bytes: &[u8],
+    free: u16,
+) -> Result<(), Fail> {
     overwrite(&mut files, at, bytes)?;
     let mut store = opened(alloc, files, 9)?;
-    goes_on(alloc, &mut store, if taken.is_some() { 4 } else { 5 })?;
-    Ok((read, taken))
+    goes_on(alloc, &mut store, free)
 }
 
 // A store holds what it held, and its next number is this one.
 fn goes_on(alloc: Global, store: &mut Store<FileStore<Memory>>, free: u16) -> Result<(), Fail> {
     holds(alloc, store, HELD[1])?;
-    wanted(store.take_numbers(1)? == free, "the next number")
+    wanted(take(store, 1)? == free, "the next number")
 }
 
 #[test]
